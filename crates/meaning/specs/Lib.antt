@@ -1,0 +1,11 @@
+pub mod CrewTable
+pub mod Clock
+pub mod Context
+pub mod Object
+pub mod State
+pub mod Message
+pub mod Settle
+pub mod OwnSteps
+pub mod Exchange
+pub mod Step
+pub mod Good

@@ -1,0 +1,1 @@
+// Layer 1, meaning: definitions and their laws, no code. See specs/.

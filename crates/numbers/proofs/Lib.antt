@@ -1,0 +1,4 @@
+pub mod Tests
+pub mod Lists
+pub mod Controllers
+pub mod Orders

@@ -1,0 +1,109 @@
+-- What is in the lists that the definitions build. Assumes nothing.
+use Prim.Native.Nat.{ℕ, zero, suc, _-_, _≤_}
+use mathlib.Core.Path.{_≡_, refl, sym, ap, _∙_}
+use mathlib.Core.Logic.{_⊎_, inl, inr, _↔_, ⊎-elim, ⊎-map}
+use mathlib.Core.Bool.{Bool, true, false, _&&_, _||_, not, false≢true}
+use mathlib.Core.List.{List, [], _∷_, List·Memᴰ·not-nil, List·Memᴰ·cases-cons, Memᴰ·cast}
+use native.Mathlib.Omega.{arith}
+use lib.ListN.{getD}
+use Rattle.numbers.specs.Words.{if_then_else_, cons-if, keep, some?, all?, place, place-all, map, concat-map, fold}
+use Rattle.numbers.proofs.Tests.{by-test, and-left, and-right, and-both, or-cases, or-inl, or-inr, _∈_, here, there}
+
+module _ {A : Type 0} where
+  in-if : (b : Bool) (xs ys : List A) {v : A} → v ∈ (if b then xs else ys) → ((b ≡ true) × (v ∈ xs)) ⊎ ((b ≡ false) × (v ∈ ys))
+  in-if true xs ys m = inl (refl, m)
+  in-if false xs ys m = inr (refl, m)
+
+  in-cons-if : (b : Bool) (x : A) (xs : List A) {v : A} → v ∈ cons-if b x xs → ((v ≡ x) × (b ≡ true)) ⊎ (v ∈ xs)
+  in-cons-if true x xs m = ⊎-map (λ e. (e, refl)) (λ h. h) (List·Memᴰ·cases-cons m)
+  in-cons-if false x xs m = inr m
+
+  cons-if-there : (b : Bool) (x : A) (xs : List A) {v : A} → v ∈ xs → v ∈ cons-if b x xs
+  cons-if-there true x xs m = there m
+  cons-if-there false x xs m = m
+
+  cons-if-here : (b : Bool) (x : A) (xs : List A) {v : A} → v ≡ x → b ≡ true → v ∈ cons-if b x xs
+  cons-if-here true x xs e t = here e
+  cons-if-here false x xs e t = absurd (false≢true t)
+
+  -- those kept are those that pass
+  pub in-keep : (f : A → Bool) (xs : List A) {v : A} → v ∈ keep f xs → (v ∈ xs) × (f v ≡ true)
+  in-keep f [] m = absurd (List·Memᴰ·not-nil m)
+  in-keep f (x ∷ xs) m =
+      ⊎-elim (λ h. (here (h .0), ap f (h .0) ∙ h .1)) (λ h. let r = in-keep f xs h in (there (r .0), r .1)) (in-cons-if (f x) x (keep f xs) m)
+
+  pub keep-in : (f : A → Bool) (xs : List A) {v : A} → v ∈ xs → f v ≡ true → v ∈ keep f xs
+  keep-in f [] m t = m
+  keep-in f (x ∷ xs) m t =
+      ⊎-elim (λ e. cons-if-here (f x) x (keep f xs) e (sym (ap f e) ∙ t)) (λ h. cons-if-there (f x) x (keep f xs) (keep-in f xs h t))
+      (List·Memᴰ·cases-cons m)
+
+  -- one of them passes
+  pub some-in : (f : A → Bool) (xs : List A) → some? f xs ≡ true → (x : A) × (x ∈ xs) × (f x ≡ true)
+  some-in f [] t = absurd (false≢true t)
+  some-in f (x ∷ xs) t =
+      ⊎-elim (λ h. (x, here refl, h)) (λ h. let r = some-in f xs h in (r .0, there (r .1), r .2)) (or-cases (f x) (some? f xs) t)
+
+  pub in-some : (f : A → Bool) (xs : List A) {x : A} → x ∈ xs → f x ≡ true → some? f xs ≡ true
+  in-some f [] m t = absurd (List·Memᴰ·not-nil m)
+  in-some f (x ∷ xs) m t =
+      ⊎-elim (λ e. or-inl (f x) (some? f xs) (sym (ap f e) ∙ t)) (λ h. or-inr (f x) (some? f xs) (in-some f xs h t)) (List·Memᴰ·cases-cons m)
+
+  -- all of them pass
+  pub all-in : (f : A → Bool) (xs : List A) {x : A} → all? f xs ≡ true → x ∈ xs → f x ≡ true
+  all-in f [] t m = absurd (List·Memᴰ·not-nil m)
+  all-in f (x ∷ xs) t m =
+      ⊎-elim (λ e. ap f e ∙ and-left (f x) (all? f xs) t) (λ h. all-in f xs (and-right (f x) (all? f xs) t) h) (List·Memᴰ·cases-cons m)
+
+  pub in-all : (f : A → Bool) (xs : List A) → ((x : A) → x ∈ xs → f x ≡ true) → all? f xs ≡ true
+  in-all f [] h = refl
+  in-all f (x ∷ xs) h = and-both (f x) (all? f xs) (h x (here refl)) (in-all f xs (λ y m. h y (there m)))
+
+  -- what stands in an ascending list after x came to its place
+  pub in-place : (b : A → A → Bool) (x : A) (ys : List A) {v : A} → v ∈ place b x ys → (v ≡ x) ⊎ (v ∈ ys)
+  in-place b x [] m = List·Memᴰ·cases-cons m
+  in-place b x (y ∷ ys) m =
+      ⊎-elim (λ h. ⊎-elim (λ e. inr (here e)) (λ k. ⊎-map (λ e. e) there (in-place b x ys k)) (List·Memᴰ·cases-cons (h .1)))
+      (λ h.
+      ⊎-elim (λ k. List·Memᴰ·cases-cons (k .1)) (λ k. ⊎-map (λ e. e) there (List·Memᴰ·cases-cons (k .1)))
+      (in-if (b x y) (x ∷ y ∷ ys) (x ∷ ys) (h .1)))
+      (in-if (b y x) (y ∷ place b x ys) (if b x y then (x ∷ y ∷ ys) else (x ∷ ys)) m)
+
+  pub place-here : (b : A → A → Bool) (x : A) (ys : List A) → x ∈ place b x ys
+  place-here b x [] = here refl
+  place-here b x (y ∷ ys) =
+      let rest = place-here b x ys in
+      by-test (b y x) (λ e. rw e (there rest)) (λ e. by-test (b x y) (λ d. rw (e, d) (here refl)) (λ d. rw (e, d) (here refl)))
+
+  -- two that stand at one place
+  abbrev pub Tied : (A → A → Bool) → A → A → Type 0
+  Tied b x y = (b x y ≡ false) × (b y x ≡ false)
+
+  pub place-there : (b : A → A → Bool) (x : A) (ys : List A) {v : A} → v ∈ ys → (v ∈ place b x ys) ⊎ Tied b v x
+  place-there b x [] m = absurd (List·Memᴰ·not-nil m)
+  place-there b x (y ∷ ys) {v} m =
+      ⊎-elim
+      (λ e. by-test (b y x) (λ t. inl (rw t (here e)))
+      (λ t. by-test (b x y) (λ d. inl (rw (t, d) (there (here e)))) (λ d. inr (ap (λ z. b z x) e ∙ t, ap (λ z. b x z) e ∙ d))))
+      (λ h. ⊎-elim
+      (λ r. by-test (b y x) (λ t. inl (rw t (there r))) (λ t. by-test (b x y) (λ d. inl (rw (t, d) (there (there h)))) (λ d. inl (rw (t, d) (there h)))))
+      inr (place-there b x ys h))
+      (List·Memᴰ·cases-cons m)
+
+  pub in-place-all : (b : A → A → Bool) (xs ys : List A) {v : A} → v ∈ place-all b xs ys → (v ∈ xs) ⊎ (v ∈ ys)
+  in-place-all b [] ys m = inr m
+  in-place-all b (x ∷ xs) ys m =
+      ⊎-elim (λ e. inl (here e)) (λ h. ⊎-map there (λ k. k) (in-place-all b xs ys h)) (in-place b x (place-all b xs ys) m)
+
+  -- where two of them that stand at one place are the same, nothing is lost
+  pub place-all-in : (b : A → A → Bool) (P : A → Type 0) → ((v w : A) → P v → P w → Tied b v w → v ≡ w) → (xs ys : List A)
+      → ((v : A) → v ∈ xs → P v) → ((v : A) → v ∈ ys → P v) → {v : A} → (v ∈ xs) ⊎ (v ∈ ys) → v ∈ place-all b xs ys
+  place-all-in b P one [] ys px py m = ⊎-elim (λ h. absurd (List·Memᴰ·not-nil h)) (λ h. h) m
+  place-all-in b P one (x ∷ xs) ys px py {v} m =
+      let rest : (v ∈ xs) ⊎ (v ∈ ys) → v ∈ place-all b xs ys = place-all-in b P one xs ys (λ w h. px w (there h)) py in
+      let pv : P v = ⊎-elim (px v) (py v) m in
+      let keep-it : v ∈ place-all b xs ys → v ∈ place-all b (x ∷ xs) ys =
+      λ h. ⊎-elim (λ k. k) (λ t. Memᴰ·cast (one v x pv (px x (here refl)) t) (place-here b x (place-all b xs ys))) (place-there b x (place-all b xs ys) h) in
+      ⊎-elim
+      (λ h. ⊎-elim (λ e. Memᴰ·cast e (place-here b x (place-all b xs ys))) (λ k. keep-it (rest (inl k))) (List·Memᴰ·cases-cons h))
+      (λ h. keep-it (rest (inr h))) m
