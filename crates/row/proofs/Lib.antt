@@ -1,0 +1,6 @@
+pub mod Members
+pub mod Advancing
+pub mod Adding
+pub mod Uniting
+pub mod Highest
+pub mod Ascending
