@@ -1,2 +1,4 @@
 pub mod Table
 pub mod Runs
+pub mod ContextLaws
+pub mod MergeLaws

@@ -4,7 +4,7 @@ use mathlib.Core.Path.{_≡_, refl, sym, ap, _∙_}
 use mathlib.Core.Bool.{Bool, true, false, _&&_}
 use mathlib.Core.List.{List, [], _∷_}
 use native.Mathlib.Omega.{arith}
-use lib.ListN.{getD}
+use lib.ListN.{getD, length}
 use lib.Dec.{leb, eqb}
 use borrow.Author.Tests.{leb-true, le-leb, eqb-true, eq-eqb}
 use Rattle.numbers.specs.declared.Controller.{Controller}
@@ -71,3 +71,16 @@ crew-in n c = number-in (n .0) (c .0) (c .1)
 pub in-crew : (n : Controller) → n ∈ controllers → Crew n
 unfolding is-controller
 in-crew n m = crew-is n (all-in is-controller controllers refl m)
+
+-- a list of eight is the list of its entries
+pub each-entry : {A : Type 0} (d : A) (l : List A) → length l ≡ 8 → each (λ n. getD l (n .0 - 1) d) ≡ l
+each-entry d [] e = absurd (omega arith)
+each-entry d (a ∷ []) e = absurd (omega arith)
+each-entry d (a ∷ b ∷ []) e = absurd (omega arith)
+each-entry d (a ∷ b ∷ c ∷ []) e = absurd (omega arith)
+each-entry d (a ∷ b ∷ c ∷ x ∷ []) e = absurd (omega arith)
+each-entry d (a ∷ b ∷ c ∷ x ∷ y ∷ []) e = absurd (omega arith)
+each-entry d (a ∷ b ∷ c ∷ x ∷ y ∷ z ∷ []) e = absurd (omega arith)
+each-entry d (a ∷ b ∷ c ∷ x ∷ y ∷ z ∷ u ∷ []) e = absurd (omega arith)
+each-entry d (a ∷ b ∷ c ∷ x ∷ y ∷ z ∷ u ∷ v ∷ []) e = refl
+each-entry d (a ∷ b ∷ c ∷ x ∷ y ∷ z ∷ u ∷ v ∷ w ∷ l) e = absurd (omega arith)

@@ -108,6 +108,16 @@ module _ {A : Type 0} (b : A → A → Bool) where
   take-ascends (suc n) (x ∷ xs) t =
       ascends-cons x (take n xs) (λ y m. ascends-first x xs t (take-in n xs m)) (take-ascends n xs (ascends-rest x xs t))
 
+  -- two of an ascending list that stand at one place are the same
+  pub one-place : (xs : List A) → Ascends xs → {v w : A} → v ∈ xs → w ∈ xs → Tied b v w → v ≡ w
+  one-place [] t m n e = absurd (List·Memᴰ·not-nil m)
+  one-place (x ∷ xs) t {v} {w} m n e =
+      let rest = one-place xs (ascends-rest x xs t) {v = v} {w = w} in
+      ⊎-elim
+      (λ p. ⊎-elim (λ q. p ∙ sym q) (λ q. never (ap (λ z. b z w) p ∙ ascends-first x xs t q) (e .0)) (List·Memᴰ·cases-cons n))
+      (λ p. ⊎-elim (λ q. never (ap (λ z. b z v) q ∙ ascends-first x xs t p) (e .1)) (λ q. rest p q e) (List·Memᴰ·cases-cons n))
+      (List·Memᴰ·cases-cons m)
+
   module _ (O : Order b) where
     pub place-ascends : (x : A) (ys : List A) → Ascends ys → Ascends (place b x ys)
     place-ascends x [] t = refl
