@@ -2,3 +2,5 @@ pub mod Table
 pub mod Runs
 pub mod ContextLaws
 pub mod MergeLaws
+pub mod Facts
+pub mod Goodness

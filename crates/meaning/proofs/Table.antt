@@ -18,7 +18,7 @@ use Rattle.row.specs.declared.Row.{Row}
 use Rattle.row.specs.declared.Added.the-variants.{Now, TooFar}
 use Rattle.row.specs.Row.{bit, has, advance, advanced, add, unite, digits, highest, fits, sound, addUp}
 use Rattle.meaning.specs.CrewTable.{CrewTable, is-table, holds, share-job, in-some-job}
-use Rattle.meaning.specs.Clock.{row, in-clock, enter, with-row}
+use Rattle.meaning.specs.Clock.{row, every-row, in-clock, enter, with-row}
 use Rattle.meaning.specs.Context.{Context, entry, no-context, is-empty, covers, fill-context, strip-context, higher}
 use Rattle.meaning.specs.Object.{Contents, value, deleted, Version, Object, has-dot, fill, strip, survivors, merge, gone}
 use Rattle.meaning.specs.State.{Stored, Listed, State, peers, own-base, dots-of, look-up, local}
@@ -26,11 +26,11 @@ use Rattle.meaning.specs.Message.{Outgoing, Ask, Reply, contents-formed,
 use Rattle.meaning.specs.Settle.{entered, without, put, newly-listed, own-listed, foreign-listed, settled, settle}
 use Rattle.meaning.specs.OwnSteps.{start, ours, shown, read, next-dot, written, context-ahead, Done, put-down, write, delete, strip-pass}
 use Rattle.meaning.specs.Exchange.{both-hold, other-peer, ahead-of-us, row-ahead-of-us, clashes, take-in, ask, lacking, as-stored, Replied, reply, raised, known-to-all, tidied, mended, repair}
-use Rattle.meaning.specs.Good.{sized, rows-sound, own-row-whole, points-formed, points-ascend, listed-formed, lists-formed, lists-ascend, lists-apart, jobs-held, versions-covered, versions-in-clock, lists-in-clock, dots-apart, rows-of-peers, marks-of-peers, own-marks-known, own-entries-known, records-needed, goodState}
+use Rattle.meaning.specs.Good.{sized, rows-sound, own-row-whole, points-formed, points-ascend, listed-formed, lists-formed, lists-ascend, lists-apart, jobs-held, versions-covered, versions-in-clock, lists-in-clock, dots-apart, rows-of-peers, marks-of-peers, own-marks-known, own-entries-known, records-needed, clauses, goodState}
 
 -- to unfold this is to compute with every definition
 unfoldable pub everything : Unit {0}
-unfolding is-controller is-counter is-point is-job is-key refuse_when_else_ bit has advance advanced add unite digits highest fits sound addUp is-table holds share-job in-some-job in-clock enter with-row is-empty covers fill-context strip-context higher has-dot fill strip survivors merge gone peers dots-of look-up local contents-formed version-formed versions-formed context-formed point-formed covers-all is-none clock-formed dots-agree outgoing-formed ask-formed reply-formed entered without put newly-listed own-listed foreign-listed settled settle start ours shown read next-dot written context-ahead put-down write delete strip-pass both-hold other-peer ahead-of-us row-ahead-of-us clashes take-in ask lacking as-stored reply raised known-to-all tidied mended repair sized rows-sound own-row-whole points-formed points-ascend listed-formed lists-formed lists-ascend lists-apart jobs-held versions-covered versions-in-clock lists-in-clock dots-apart rows-of-peers marks-of-peers own-marks-known own-entries-known records-needed goodState
+unfolding is-controller is-counter is-point is-job is-key refuse_when_else_ bit has advance advanced add unite digits highest fits sound addUp is-table holds share-job in-some-job every-row in-clock enter with-row is-empty covers fill-context strip-context higher has-dot fill strip survivors merge gone peers dots-of look-up local contents-formed version-formed versions-formed context-formed point-formed covers-all is-none clock-formed dots-agree outgoing-formed ask-formed reply-formed entered without put newly-listed own-listed foreign-listed settled settle start ours shown read next-dot written context-ahead put-down write delete strip-pass both-hold other-peer ahead-of-us row-ahead-of-us clashes take-in ask lacking as-stored reply raised known-to-all tidied mended repair sized rows-sound own-row-whole points-formed points-ascend listed-formed lists-formed lists-ascend lists-apart jobs-held versions-covered versions-in-clock lists-in-clock dots-apart rows-of-peers marks-of-peers own-marks-known own-entries-known records-needed clauses goodState
 everything = tt
 
 -- "Table: job 0 held by 1 and 2. Point 7 of job 0."

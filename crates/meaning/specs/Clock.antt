@@ -5,8 +5,8 @@ use mathlib.Core.List.{List}
 use lib.ListN.{getD}
 use Rattle.numbers.specs.declared.Controller.{Controller}
 use Rattle.numbers.specs.declared.Dot.{Dot}
-use Rattle.numbers.specs.Words.{if_then_else_}
-use Rattle.numbers.specs.Numbers.{same-controller, each}
+use Rattle.numbers.specs.Words.{if_then_else_, all?}
+use Rattle.numbers.specs.Numbers.{same-controller, each, controllers}
 use Rattle.row.specs.declared.Row.{Row}
 use Rattle.row.specs.Row.{none-seen, has, add, unite}
 
@@ -15,6 +15,10 @@ Clock = List Row
 
 abbrev pub row : Clock → Controller → Row
 row k n = getD k (n .0 - 1) none-seen
+
+-- each of the eight rows passes
+unfoldable pub every-row : (Row → Bool) → Clock → Bool
+every-row f k = all? (λ n. f (row k n)) controllers
 
 -- the dot is in the clock
 unfoldable pub in-clock : Clock → Dot → Bool

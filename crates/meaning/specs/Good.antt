@@ -1,15 +1,15 @@
 -- When a state is good: the image paragraph of document 01, but for what it says of bytes. Assumes nothing.
 use Prim.Native.Nat.{ℕ}
 use mathlib.Core.Bool.{Bool, _&&_, _||_, not}
-use mathlib.Core.List.{List}
+use mathlib.Core.List.{List, [], _∷_}
 use lib.ListN.{length}
 use lib.Dec.{leb, eqb}
-use Rattle.numbers.specs.Words.{all?, ascends?}
+use Rattle.numbers.specs.Words.{every, all?, ascends?}
 use Rattle.numbers.specs.Numbers.{last-counter, is-controller, is-counter, same-controller, controllers}
 use Rattle.numbers.specs.Key.{is-key}
 use Rattle.row.specs.Row.{fits, sound}
 use Rattle.meaning.specs.CrewTable.{CrewTable, is-table, holds}
-use Rattle.meaning.specs.Clock.{row, in-clock}
+use Rattle.meaning.specs.Clock.{row, every-row, in-clock}
 use Rattle.meaning.specs.Context.{entry, fill-context}
 use Rattle.meaning.specs.Object.{gone}
 use Rattle.meaning.specs.State.{Stored, stored-before, Listed, listed-before, mark, State, peers, own-base, listed, dots-of}
@@ -22,18 +22,20 @@ use Rattle.meaning.specs.Settle.{most-points, most-listed}
 -- controller
 unfoldable pub sized : State → Bool
 sized s =
-    is-controller (s .own)
-    && is-table (s .table)
-    && eqb (length (s .clock)) 8
-    && eqb (length (s .watermark)) 8
-    && all? (λ r. eqb (length r) 8) (s .watermark)
-    && leb (length (s .own-dots)) most-listed
-    && leb (length (s .foreign-dots)) most-listed
-    && leb (length (s .points)) most-points
+    every
+    (is-controller (s .own)
+    ∷ is-table (s .table)
+    ∷ eqb (length (s .clock)) 8
+    ∷ eqb (length (s .watermark)) 8
+    ∷ all? (λ r. eqb (length r) 8) (s .watermark)
+    ∷ leb (length (s .own-dots)) most-listed
+    ∷ leb (length (s .foreign-dots)) most-listed
+    ∷ leb (length (s .points)) most-points
+    ∷ [])
 
 -- "64 bits .. Bit 0 is never set. No row stands for a counter above 4,294,967,295."
 unfoldable pub rows-sound : State → Bool
-rows-sound s = all? (λ r. fits r && sound r) (s .clock)
+rows-sound s = every-row (λ r. fits r && sound r) (s .clock)
 
 -- "The own row has no bits set."
 unfoldable pub own-row-whole : State → Bool
@@ -49,7 +51,8 @@ points-ascend s = ascends? stored-before (s .points)
 
 -- the ranges of a listed dot; and "dots name holders of the job"
 unfoldable pub listed-formed : CrewTable → Listed → Bool
-listed-formed t l = is-key (l .key) && is-controller (l .dot .who) && holds t (l .dot .who) (l .key .job) && is-counter (l .dot .count)
+listed-formed t l =
+    every (is-key (l .key) ∷ is-controller (l .dot .who) ∷ holds t (l .dot .who) (l .key .job) ∷ is-counter (l .dot .count) ∷ [])
 
 unfoldable pub lists-formed : State → Bool
 lists-formed s = all? (listed-formed (s .table)) (listed s)
@@ -114,23 +117,28 @@ own-entries-known s =
 unfoldable pub records-needed : State → Bool
 records-needed s = all? (λ p. not (gone (p .object))) (s .points)
 
-unfoldable pub goodState : State → Bool
-goodState s =
+-- the clauses, in this order
+unfoldable pub clauses : State → List Bool
+clauses s =
     sized s
-    && rows-sound s
-    && own-row-whole s
-    && points-formed s
-    && points-ascend s
-    && lists-formed s
-    && lists-ascend s
-    && lists-apart s
-    && jobs-held s
-    && versions-covered s
-    && versions-in-clock s
-    && lists-in-clock s
-    && dots-apart s
-    && rows-of-peers s
-    && marks-of-peers s
-    && own-marks-known s
-    && own-entries-known s
-    && records-needed s
+    ∷ rows-sound s
+    ∷ own-row-whole s
+    ∷ points-formed s
+    ∷ points-ascend s
+    ∷ lists-formed s
+    ∷ lists-ascend s
+    ∷ lists-apart s
+    ∷ jobs-held s
+    ∷ versions-covered s
+    ∷ versions-in-clock s
+    ∷ lists-in-clock s
+    ∷ dots-apart s
+    ∷ rows-of-peers s
+    ∷ marks-of-peers s
+    ∷ own-marks-known s
+    ∷ own-entries-known s
+    ∷ records-needed s
+    ∷ []
+
+unfoldable pub goodState : State → Bool
+goodState s = every (clauses s)

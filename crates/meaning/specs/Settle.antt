@@ -8,13 +8,13 @@ use mathlib.Core.List.{List, []}
 use lib.ListN.{length, take}
 use lib.Dec.{ltb}
 use Rattle.numbers.specs.declared.Key.{Key}
-use Rattle.numbers.specs.Words.{if_then_else_, keep, some?, all?, place, place-all, fold}
+use Rattle.numbers.specs.Words.{if_then_else_, keep, some?, place, place-all, fold}
 use Rattle.numbers.specs.Numbers.{same-controller}
 use Rattle.numbers.specs.Key.{same-key}
 use Rattle.refusal.specs.declared.Refusal.the-variants.{RowTooFar, TooManyVersions, TooManyPoints}
 use Rattle.refusal.specs.Refusal.{Answer, accepted, refuse_when_else_}
 use Rattle.row.specs.Row.{fits}
-use Rattle.meaning.specs.Clock.{Clock, in-clock, enter}
+use Rattle.meaning.specs.Clock.{Clock, every-row, in-clock, enter}
 use Rattle.meaning.specs.Object.{strip, gone}
 use Rattle.meaning.specs.State.{Stored, stored-before, Listed, listed-before, State, dots-of}
 use Rattle.meaning.specs.Message.{most-versions}
@@ -34,11 +34,14 @@ entered k rs = fold (λ c l. enter c (l .dot)) k (dots-of rs)
 unfoldable pub without : Key → List Stored → List Stored
 without k ps = keep (λ p. not (same-key k (p .key))) ps
 
+-- the record that a result leaves
+abbrev pub stripped : Clock → Stored → Stored
+stripped k r = record { key = r .key; object = strip k (r .object) }
+
 -- a result is stripped and takes its record's place, or its record goes
 unfoldable pub put : Clock → List Stored → Stored → List Stored
 put k ps r =
-    let o = strip k (r .object) in
-    if gone o then without (r .key) ps else place stored-before (record { key = r .key; object = o }) ps
+    if gone (strip k (r .object)) then without (r .key) ps else place stored-before (stripped k r) ps
 
 -- "Version dots new to the clock are listed with their point": not in the clock as it was before the step
 unfoldable pub newly-listed : State → List Stored → List Listed
@@ -72,7 +75,7 @@ settled s k rs =
 unfoldable pub settle : State → Clock → List Stored → Answer State
 settle s k rs =
     let after = settled s k rs in
-    refuse RowTooFar when not (all? fits (after .clock)) else
+    refuse RowTooFar when not (every-row fits (after .clock)) else
     refuse TooManyVersions when some? (λ r. ltb most-versions (length (r .object .versions))) rs else
     refuse TooManyPoints when ltb most-points (length (after .points)) else
     accepted after

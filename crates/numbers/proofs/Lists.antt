@@ -1,13 +1,22 @@
 -- What is in the lists that the definitions build. Assumes nothing.
 use Prim.Native.Nat.{ℕ, zero, suc, _-_, _≤_}
-use mathlib.Core.Path.{_≡_, refl, sym, ap, _∙_}
+use mathlib.Core.Path.{_≡_, refl, sym, ap, _∙_, subst}
 use mathlib.Core.Logic.{_⊎_, inl, inr, _↔_, ⊎-elim, ⊎-map}
 use mathlib.Core.Bool.{Bool, true, false, _&&_, _||_, not, false≢true}
-use mathlib.Core.List.{List, [], _∷_, List·Memᴰ·not-nil, List·Memᴰ·cases-cons, Memᴰ·cast}
+use mathlib.Core.List.{List, [], _∷_, _++_, List·Memᴰ·append-cases, List·Memᴰ·not-nil, List·Memᴰ·cases-cons, Memᴰ·cast}
 use native.Mathlib.Omega.{arith}
 use lib.ListN.{getD}
-use Rattle.numbers.specs.Words.{if_then_else_, cons-if, keep, some?, all?, place, place-all, map, concat-map, fold}
+use Rattle.numbers.specs.Words.{if_then_else_, every, cons-if, keep, some?, all?, place, place-all, map, concat-map}
 use Rattle.numbers.proofs.Tests.{by-test, and-left, and-right, and-both, or-cases, or-inl, or-inr, _∈_, here, there}
+
+-- membership in an append
+pub in-left : {A : Type 0} (xs ys : List A) {v : A} → v ∈ xs → v ∈ xs ++ ys
+in-left [] ys m = absurd (List·Memᴰ·not-nil m)
+in-left (x ∷ xs) ys m = ⊎-elim here (λ h. there (in-left xs ys h)) (List·Memᴰ·cases-cons m)
+
+pub in-right : {A : Type 0} (xs ys : List A) {v : A} → v ∈ ys → v ∈ xs ++ ys
+in-right [] ys m = m
+in-right (x ∷ xs) ys m = there (in-right xs ys m)
 
 module _ {A : Type 0} where
   in-if : (b : Bool) (xs ys : List A) {v : A} → v ∈ (if b then xs else ys) → ((b ≡ true) × (v ∈ xs)) ⊎ ((b ≡ false) × (v ∈ ys))
@@ -59,6 +68,11 @@ module _ {A : Type 0} where
   in-all f [] h = refl
   in-all f (x ∷ xs) h = and-both (f x) (all? f xs) (h x (here refl)) (in-all f xs (λ y m. h y (there m)))
 
+  -- where none passes none is kept
+  pub keep-none : (f : A → Bool) (xs : List A) → ((x : A) → x ∈ xs → f x ≡ false) → keep f xs ≡ []
+  keep-none f [] h = refl
+  keep-none f (x ∷ xs) h = rw (h x (here refl)) (keep-none f xs (λ y m. h y (there m)))
+
   -- what stands in an ascending list after x came to its place
   pub in-place : (b : A → A → Bool) (x : A) (ys : List A) {v : A} → v ∈ place b x ys → (v ≡ x) ⊎ (v ∈ ys)
   in-place b x [] m = List·Memᴰ·cases-cons m
@@ -107,3 +121,41 @@ module _ {A : Type 0} where
       ⊎-elim
       (λ h. ⊎-elim (λ e. Memᴰ·cast e (place-here b x (place-all b xs ys))) (λ k. keep-it (rest (inl k))) (List·Memᴰ·cases-cons h))
       (λ h. keep-it (rest (inr h))) m
+
+-- what is in the lists that map and concat-map build
+pub in-map : {A B : Type 0} (f : A → B) (xs : List A) {y : B} → y ∈ map f xs → (x : A) × (x ∈ xs) × (y ≡ f x)
+in-map f [] m = absurd (List·Memᴰ·not-nil m)
+in-map f (x ∷ xs) m =
+    ⊎-elim (λ e. (x, here refl, e)) (λ h. let q = in-map f xs h in (q .0, there (q .1), q .2)) (List·Memᴰ·cases-cons m)
+
+pub map-in : {A B : Type 0} (f : A → B) (xs : List A) {x : A} → x ∈ xs → f x ∈ map f xs
+map-in f [] m = absurd (List·Memᴰ·not-nil m)
+map-in f (y ∷ ys) m = ⊎-elim (λ e. here (ap f e)) (λ h. there (map-in f ys h)) (List·Memᴰ·cases-cons m)
+
+pub in-concat-map : {A B : Type 0} (f : A → List B) (xs : List A) {y : B} → y ∈ concat-map f xs → (x : A) × (x ∈ xs) × (y ∈ f x)
+in-concat-map f [] m = absurd (List·Memᴰ·not-nil m)
+in-concat-map f (x ∷ xs) m =
+    ⊎-elim (λ h. (x, here refl, h)) (λ h. let q = in-concat-map f xs h in (q .0, there (q .1), q .2)) (List·Memᴰ·append-cases (f x) m)
+
+pub concat-map-in : {A B : Type 0} (f : A → List B) (xs : List A) {x : A} {y : B} → x ∈ xs → y ∈ f x → y ∈ concat-map f xs
+concat-map-in f [] m k = absurd (List·Memᴰ·not-nil m)
+concat-map-in f (z ∷ zs) {x} {y} m k =
+    ⊎-elim (λ e. in-left (f z) (concat-map f zs) (subst (λ (w : _). y ∈ f w) e k)) (λ h. in-right (f z) (concat-map f zs) (concat-map-in f zs h k)) (List·Memᴰ·cases-cons m)
+
+-- ---- a list of tests
+
+-- the test at a place of a list of tests that all pass
+pub clause : (bs : List Bool) → every bs ≡ true → (i : ℕ) → getD bs i true ≡ true
+clause [] t i = refl
+clause (b ∷ bs) t zero = and-left b (every bs) t
+clause (b ∷ bs) t (suc i) = clause bs (and-right b (every bs) t) i
+
+-- each of them passes
+infixr 40 _and-also_
+pub data Passed : List Bool → Type 0 where
+  passed : Passed []
+  _and-also_ : {b : Bool} {bs : List Bool} → b ≡ true → Passed bs → Passed (b ∷ bs)
+
+pub all-passed : {bs : List Bool} → Passed bs → every bs ≡ true
+all-passed passed = refl
+all-passed (_and-also_ {b = b} {bs = bs} p ps) = and-both b (every bs) p (all-passed ps)

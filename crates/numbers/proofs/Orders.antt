@@ -9,9 +9,9 @@ use native.Mathlib.Nat.{le-refl}
 use lib.ListN.{length, take}
 use lib.Dec.{leb, ltb, eqb}
 use borrow.Author.Tests.{ltb-true, ltb-false, eqb-true, eqb-false, lt-ltb, le-ltb, eq-eqb, ne-eqb}
-use Rattle.numbers.specs.Words.{if_then_else_, cons-if, keep, all?, ascends?, place, place-all, same-pair, pair-before}
+use Rattle.numbers.specs.Words.{if_then_else_, cons-if, keep, all?, ascends?, place, place-all, map, same-pair, pair-before}
 use Rattle.numbers.proofs.Tests.{by-test, never, and-left, and-right, and-both, or-cases, or-false, or-inl, or-inr, and-false, _∈_, here, there}
-use Rattle.numbers.proofs.Lists.{Tied, in-keep, in-place, in-place-all, all-in, in-all}
+use Rattle.numbers.proofs.Lists.{Tied, in-keep, in-place, all-in, in-all, in-map}
 
 -- ---- pairs of numbers
 
@@ -168,6 +168,13 @@ module _ {A : Type 0} (b : A → A → Bool) where
         over s k =
             ⊎-map (λ e. e) (λ h. (there h, never-tied′ (O .tied-left x y v s ∙ ascends-first y ys t h))) (List·Memᴰ·cases-cons k)
 
+    -- an ascending list of one thing has it once at most
+    pub one-thing : (x : A) (xs : List A) → Ascends xs → ((v : A) → v ∈ xs → v ≡ x) → length xs ≤ 1
+    one-thing x [] t h = omega arith
+    one-thing x (a ∷ []) t h = omega arith
+    one-thing x (a ∷ c ∷ xs) t h =
+        never (ascends-first a (c ∷ xs) t (here refl)) (subst (λ (z : A). b a z ≡ false) (h a (here refl) ∙ sym (h c (there (here refl)))) (O .itself a))
+
     -- two ascending lists with the same members are the same
     pub ascending-same : (xs ys : List A) → Ascends xs → Ascends ys → ((v : A) → (v ∈ xs) ↔ (v ∈ ys)) → xs ≡ ys
     ascending-same [] [] t u h = refl
@@ -191,7 +198,18 @@ module _ {A : Type 0} (b : A → A → Bool) where
               (List·Memᴰ·cases-cons (h v .1 (there m))),
         )
 
-  -- ---- lengths
+-- what is made one by one of an ascending list ascends, where each pair of it does
+pub map-ascends : {A B : Type 0} (b : A → A → Bool) (c : B → B → Bool) (f : A → B) → ((x y : A) → b x y ≡ true → c (f x) (f y) ≡ true)
+    → (xs : List A) → Ascends b xs → Ascends c (map f xs)
+map-ascends b c f up [] t = refl
+map-ascends b c f up (x ∷ xs) t =
+    ascends-cons c (f x) (map f xs)
+    (λ y m. let q = in-map f xs m in ap (c (f x)) (q .2) ∙ up x (q .0) (ascends-first b x xs t (q .1)))
+    (map-ascends b c f up xs (ascends-rest b x xs t))
+
+-- ---- lengths
+
+module _ {A : Type 0} (b : A → A → Bool) where
 
   pub keep-length : (f : A → Bool) (xs : List A) → length (keep f xs) ≤ length xs
   keep-length f [] = le-refl 0

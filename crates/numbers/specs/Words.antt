@@ -9,6 +9,11 @@ abbrev pub if_then_else_ {ℓ} : {A : Type ℓ} → Bool → A → A → A
 if true then a else b = a
 if false then a else b = b
 
+-- all tests of a list pass
+abbrev pub every : List Bool → Bool
+every [] = true
+every (b ∷ bs) = b && every bs
+
 module _ {A : Type 0} where
   -- x in front of xs where the test passed
   abbrev pub cons-if : Bool → A → List A → List A
