@@ -4,3 +4,5 @@ pub mod ContextLaws
 pub mod MergeLaws
 pub mod Facts
 pub mod Goodness
+pub mod Entering
+pub mod Putting

@@ -1,8 +1,8 @@
 -- Adding counters: a row then has what it had and the counters added, in any order and any number of times. Assumes nothing.
-use Prim.Native.Nat.{ℕ, zero, suc, _+_, _-_, _/_, _%_, _^_, _≤_, _<_}
-use mathlib.Core.Path.{_≡_, refl, sym, ap, _∙_}
+use Prim.Native.Nat.{ℕ, suc, _+_, _-_, _/_, _%_, _^_, _≤_, _<_}
+use mathlib.Core.Path.{_≡_, refl, ap, _∙_}
 use mathlib.Core.Logic.{_⊎_, inl, inr, _↔_, ⊎-elim, ⊎-map, Iff·trans}
-use mathlib.Core.Bool.{Bool, true, false}
+use mathlib.Core.Bool.{true}
 use mathlib.Core.List.{List, [], _∷_, List·Memᴰ·not-nil, List·Memᴰ·cases-cons}
 use native.Mathlib.Nat.{le-refl, div-self, div-eq-of-lt}
 use native.Mathlib.Omega.{arith}
@@ -11,11 +11,11 @@ use lib.Bits.{bitOr}
 use lib.Dec.{leb, ltb}
 use borrow.Author.Tests.{ltb-true, ltb-false, leb-true, leb-false, le-leb, lt-leb}
 use Rattle.numbers.specs.declared.Counter.{Counter}
-use Rattle.numbers.specs.Words.{if_then_else_, fold}
+use Rattle.numbers.specs.Words.{fold}
 use Rattle.numbers.proofs.Tests.{by-test, _∈_, here, there}
 use Rattle.row.specs.declared.Row.{Row}
 use Rattle.row.specs.Row.{has, advance, advanced, add}
-use Rattle.row.proofs.Members.{digit, Member, low, high, member, has-of, either, Clear, row-determined}
+use Rattle.row.proofs.Members.{digit, same-number, Member, low, high, member, has-of, either, Clear, row-determined}
 use Rattle.row.proofs.Advancing.{advanced-member, advanced-clear, advanced-base}
 
 -- ---- the digits of a power of two
@@ -77,7 +77,7 @@ module _ (r : Row) (c : Counter) where
   pub add-has : (d : Counter) → 0 < c .0 → (has (add r c) d ≡ true) ↔ ((has r d ≡ true) ⊎ (d ≡ c))
   add-has d pos = (
     λ h. ⊎-map (has-of r d) (λ e i. record { 0 = e i }) (add-member (d .0) pos .0 (member (add r c) d h)),
-    λ h. has-of (add r c) d (add-member (d .0) pos .1 (⊎-map (member r d) (ap (λ (x : Counter). x .0)) h)),
+    λ h. has-of (add r c) d (add-member (d .0) pos .1 (⊎-map (member r d) same-number h)),
   )
 
   pub add-clear : Clear r → Clear (add r c)

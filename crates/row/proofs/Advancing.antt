@@ -1,7 +1,7 @@
 -- The base that goes up over the run of set low bits: the row keeps its counters, and bit 0 is clear afterwards. Assumes nothing.
-use Prim.Native.Nat.{ℕ, zero, suc, _+_, _/_, _%_, _^_, _≤_, _<_}
+use Prim.Native.Nat.{ℕ, zero, suc, _+_, _/_, _%_, _≤_}
 use mathlib.Core.Path.{_≡_, refl, sym, _∙_}
-use mathlib.Core.Logic.{_⊎_, inl, inr, _↔_, ⊎-elim, Iff·rfl, Iff·trans}
+use mathlib.Core.Logic.{_↔_, ⊎-elim, Iff·rfl, Iff·trans}
 use native.Mathlib.Nat.{le-refl}
 use native.Mathlib.Omega.{arith}
 use lib.Arith.{half-le}

@@ -1,10 +1,10 @@
 -- The highest counter of a row, that a row fits its 64 bits, and that it is sound: what each says of the row's counters, and that adding and
 -- uniting keep it. Assumes nothing.
-use Prim.Native.Nat.{ℕ, zero, suc, _+_, _-_, _/_, _%_, _^_, _≤_, _<_}
+use Prim.Native.Nat.{ℕ, zero, suc, _+_, _/_, _%_, _^_, _≤_, _<_}
 use mathlib.Core.Path.{_≡_, refl, sym, ap, _∙_}
 use mathlib.Core.Logic.{_⊎_, inl, inr, ⊎-elim}
-use mathlib.Core.Bool.{Bool, true, false, _&&_}
-use native.Mathlib.Nat.{le-refl, div-eq-of-lt, lt-of-lt-of-le}
+use mathlib.Core.Bool.{true, false}
+use native.Mathlib.Nat.{le-refl, le-trans, div-eq-of-lt, lt-of-lt-of-le}
 use native.Mathlib.Omega.{arith}
 use lib.Arith.{half-le}
 use lib.Pow.{pow-mono}
@@ -15,7 +15,7 @@ use Rattle.numbers.specs.Numbers.{counter, last-counter, is-counter}
 use Rattle.numbers.proofs.Tests.{by-test, and-left, and-right, and-both}
 use Rattle.row.specs.declared.Row.{Row}
 use Rattle.row.specs.Row.{has, add, unite, digits, highest, fits, sound}
-use Rattle.row.proofs.Members.{digit, digit-half, Member, low, high, member, has-of, low-has, Clear}
+use Rattle.row.proofs.Members.{digit, digit-half, same-number, Member, low, high, member, has-of, low-has, Clear}
 use Rattle.row.proofs.Adding.{add-has, add-clear, add-base}
 use Rattle.row.proofs.Uniting.{unite-has, unite-clear, unite-base, unite-base′}
 
@@ -100,6 +100,10 @@ module _ (r : Row) where
 
 -- ---- 64 bits
 
+pub small-fits : (r : Row) → r .bits < 2 ^ 64 → fits r ≡ true
+unfolding fits
+small-fits r l = lt-ltb (r .bits) (2 ^ 64) l
+
 pub fits-top : (r : Row) (c : Counter) → fits r ≡ true → has r c ≡ true → c .0 ≤ r .base + 64
 unfolding fits
 fits-top r c f h = bits-top r c 64 (ltb-true (r .bits) (2 ^ 64) f) h
@@ -108,18 +112,26 @@ pub fits-digits : (r : Row) → fits r ≡ true → highest r ≤ r .base + 64
 fits-digits r f = highest-least r (r .base + 64) (λ c h. fits-top r c f h)
 
 pub top-fits : (r : Row) → ((c : Counter) → has r c ≡ true → c .0 ≤ r .base + 64) → fits r ≡ true
-unfolding fits highest
-top-fits r f = lt-ltb (r .bits) (2 ^ 64) (lt-of-lt-of-le (digits-above (r .bits) (r .bits) (le-refl (r .bits))) (pow-mono few))
+unfolding highest
+top-fits r f = small-fits r (lt-of-lt-of-le (digits-above (r .bits) (r .bits) (le-refl (r .bits))) (pow-mono few))
   where
     few : digits (r .bits) (r .bits) ≤ 64
     few = omega (arith, highest-least r (r .base + 64) f)
+
+-- a row that has a counter 64 or more above one that it lacks does not fit
+pub gap-far : (r : Row) (c d : Counter) → has r c ≡ true → 0 < d .0 → (has r d ≡ true → ⊥) → d .0 + 64 ≤ c .0 → fits r ≡ false
+gap-far r c d h pos lacks l =
+    by-test (fits r)
+    (λ t. absurd (by-test (leb (d .0) (r .base)) (λ e. lacks (low-has r d pos (leb-true (d .0) (r .base) e)))
+    (λ e. omega (arith, fits-top r c t h, leb-false (d .0) (r .base) e))))
+    (λ f. f)
 
 -- an add of a counter up to base + 64 to a row that fits gives one that fits
 pub add-fits : (r : Row) (c : Counter) → fits r ≡ true → 0 < c .0 → c .0 ≤ r .base + 64 → fits (add r c) ≡ true
 add-fits r c f pos l =
     let up = add-base r c in
     top-fits (add r c)
-    (λ d h. ⊎-elim (λ k. omega (arith, fits-top r d f k)) (λ e. omega (arith, ap (λ (x : Counter). x .0) e)) (add-has r c d pos .0 h))
+    (λ d h. ⊎-elim (λ k. omega (arith, fits-top r d f k)) (λ e. omega (arith, same-number e)) (add-has r c d pos .0 h))
 
 pub unite-fits : (r s : Row) → fits r ≡ true → fits s ≡ true → fits (unite r s) ≡ true
 unite-fits r s f g =
@@ -132,33 +144,40 @@ unite-fits r s f g =
 module _ (r : Row) where
   pub sound-clear : sound r ≡ true → Clear r
   unfolding sound
-  sound-clear t = eqb-true (r .bits % 2) 0 (and-left (eqb (r .bits % 2) 0) (leb (highest r) last-counter) t)
+  sound-clear t = eqb-true (r .bits % 2) 0 (and-left _ _ t)
 
   pub sound-highest : sound r ≡ true → highest r ≤ last-counter
   unfolding sound
-  sound-highest t = leb-true (highest r) last-counter (and-right (eqb (r .bits % 2) 0) (leb (highest r) last-counter) t)
+  sound-highest t = leb-true (highest r) last-counter (and-right (eqb (r .bits % 2) 0) _ t)
+
+  pub sound-base : sound r ≡ true → r .base ≤ last-counter
+  sound-base t = le-trans (base-highest r) (sound-highest t)
 
   pub sound-has : (c : Counter) → sound r ≡ true → has r c ≡ true → c .0 ≤ last-counter
-  sound-has c t h = omega (arith, sound-highest t, has-highest r c h)
+  sound-has c t h = le-trans (has-highest r c h) (sound-highest t)
 
   pub make-sound : Clear r → ((c : Counter) → has r c ≡ true → c .0 ≤ last-counter) → sound r ≡ true
   unfolding sound
   make-sound clear f =
-      and-both (eqb (r .bits % 2) 0) (leb (highest r) last-counter) (eq-eqb (r .bits % 2) 0 clear)
+      and-both _ _ (eq-eqb (r .bits % 2) 0 clear)
       (le-leb (highest r) last-counter (highest-least r last-counter f))
 
 pub counter-positive : (c : Counter) → is-counter c ≡ true → 0 < c .0
 unfolding is-counter
-counter-positive c t = omega (arith, leb-true 1 (c .0) (and-left (leb 1 (c .0)) (leb (c .0) last-counter) t))
+counter-positive c t = omega (arith, leb-true 1 (c .0) (and-left _ _ t))
 
 pub counter-highest : (c : Counter) → is-counter c ≡ true → c .0 ≤ last-counter
 unfolding is-counter
-counter-highest c t = leb-true (c .0) last-counter (and-right (leb 1 (c .0)) (leb (c .0) last-counter) t)
+counter-highest c t = leb-true (c .0) last-counter (and-right (leb 1 (c .0)) _ t)
+
+pub is-a-counter : (c : Counter) → 0 < c .0 → c .0 ≤ last-counter → is-counter c ≡ true
+unfolding is-counter
+is-a-counter c p l = and-both _ _ (le-leb 1 (c .0) (omega arith)) (le-leb (c .0) last-counter l)
 
 pub add-sound : (r : Row) (c : Counter) → sound r ≡ true → is-counter c ≡ true → sound (add r c) ≡ true
 add-sound r c t p =
     make-sound (add r c) (add-clear r c (sound-clear r t))
-    (λ d h. ⊎-elim (λ k. sound-has r d t k) (λ e. omega (arith, counter-highest c p, ap (λ (x : Counter). x .0) e)) (add-has r c d (counter-positive c p) .0 h))
+    (λ d h. ⊎-elim (λ k. sound-has r d t k) (λ e. omega (arith, counter-highest c p, same-number e)) (add-has r c d (counter-positive c p) .0 h))
 
 pub unite-sound : (r s : Row) → sound r ≡ true → sound s ≡ true → sound (unite r s) ≡ true
 unite-sound r s t u =

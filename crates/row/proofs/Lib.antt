@@ -4,3 +4,4 @@ pub mod Adding
 pub mod Uniting
 pub mod Highest
 pub mod Ascending
+pub mod Computing

@@ -2,14 +2,14 @@
 use Prim.Native.Nat.{ℕ, zero, suc, _+_, _-_, _/_, _%_, _^_, _≤_, _<_}
 use mathlib.Core.Path.{_≡_, refl, sym, ap, ap₂, subst, _∙_}
 use mathlib.Core.Logic.{_⊎_, inl, inr, _↔_, ⊎-elim, ⊎-map}
-use mathlib.Core.Bool.{Bool, true, false, _&&_, _||_}
+use mathlib.Core.Bool.{true, false, _||_}
 use native.Mathlib.Nat.{zero-div, div-one}
 use native.Mathlib.Omega.{arith}
 use lib.Arith.{bin-ind}
 use lib.Pow.{shr-shr}
 use lib.Bits.{bitOr, or-shr, or-mod}
 use lib.Dec.{leb, ltb, eqb}
-use borrow.Author.Tests.{ltb-true, leb-true, leb-false, eqb-true, eqb-false, lt-ltb, le-ltb, le-leb, lt-leb, eq-eqb}
+use borrow.Author.Tests.{ltb-true, leb-true, leb-false, eqb-true, eqb-false, lt-ltb, le-leb, lt-leb, eq-eqb}
 use Rattle.numbers.specs.declared.Counter.{Counter}
 use Rattle.numbers.specs.Numbers.{counter}
 use Rattle.numbers.proofs.Tests.{by-test, and-left, and-right, or-cases}
@@ -64,6 +64,9 @@ or-right j a b q = ⊎-elim (λ p. digit-or j a b ∙ ap₂ bitOr p q) (λ p. di
 
 -- ---- members
 
+pub same-number : {c d : Counter} → c ≡ d → c .0 ≡ d .0
+same-number e = ap (λ (c : Counter). c .0) e
+
 -- the row with base b and bits n has the counter c
 pub data Member (b n c : ℕ) : Type 0 where
   low : 0 < c → c ≤ b → Member b n c
@@ -72,17 +75,17 @@ pub data Member (b n c : ℕ) : Type 0 where
 module _ (r : Row) (c : Counter) where
   pub has-positive : has r c ≡ true → 0 < c .0
   unfolding has
-  has-positive h = ltb-true 0 (c .0) (and-left (ltb 0 (c .0)) (leb (c .0) (r .base) || bit (c .0 - (r .base + 1)) (r .bits)) h)
+  has-positive h = ltb-true 0 (c .0) (and-left _ _ h)
 
   pub member : has r c ≡ true → Member (r .base) (r .bits) (c .0)
   unfolding has bit
-  member h = by-test (leb (c .0) (r .base)) in-base (λ f. ⊎-elim in-base (in-bits f) (or-cases (leb (c .0) (r .base)) (bit j (r .bits)) rest))
+  member h = by-test (leb (c .0) (r .base)) in-base (λ f. ⊎-elim in-base (in-bits f) (or-cases _ _ rest))
     where
       j : ℕ
       j = c .0 - (r .base + 1)
 
       rest : (leb (c .0) (r .base) || bit j (r .bits)) ≡ true
-      rest = and-right (ltb 0 (c .0)) (leb (c .0) (r .base) || bit j (r .bits)) h
+      rest = and-right (ltb 0 (c .0)) _ h
 
       in-base : leb (c .0) (r .base) ≡ true → Member (r .base) (r .bits) (c .0)
       in-base t = low (has-positive h) (leb-true (c .0) (r .base) t)

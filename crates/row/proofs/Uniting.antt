@@ -1,8 +1,8 @@
 -- Uniting two rows: the result has the counters of both, and the order and the grouping of unions do not matter. Assumes nothing.
-use Prim.Native.Nat.{ℕ, _+_, _-_, _/_, _%_, _^_, _≤_, _<_, max}
+use Prim.Native.Nat.{ℕ, _+_, _-_, _/_, _^_, _≤_, _<_, max}
 use mathlib.Core.Path.{_≡_, sym, subst, _∙_}
 use mathlib.Core.Logic.{_⊎_, inl, inr, _↔_, ⊎-elim, ⊎-map}
-use mathlib.Core.Bool.{Bool, true, false}
+use mathlib.Core.Bool.{true}
 use native.Mathlib.Omega.{arith}
 use native.Mathlib.Nat.{le-trans, le-max-left, le-max-right}
 use lib.Bits.{bitOr}
@@ -11,7 +11,7 @@ use borrow.Author.Tests.{leb-true, leb-false}
 use Rattle.numbers.specs.declared.Counter.{Counter}
 use Rattle.numbers.proofs.Tests.{by-test}
 use Rattle.row.specs.declared.Row.{Row}
-use Rattle.row.specs.Row.{has, advanced, unite}
+use Rattle.row.specs.Row.{has, unite}
 use Rattle.row.proofs.Members.{digit, digit-shift, Member, low, high, member, has-of, either, Clear, row-determined}
 use Rattle.row.proofs.Advancing.{advanced-member, advanced-clear, advanced-base}
 
