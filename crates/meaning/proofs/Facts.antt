@@ -1,5 +1,5 @@
 -- The tests of the definitions as facts: what a well-formed point, context and clock is made of. Assumes nothing.
-use Prim.Native.Nat.{ℕ, _≤_, _<_}
+use Prim.Native.Nat.{ℕ, zero, suc, _≤_, _<_}
 use mathlib.Core.Path.{_≡_, refl, sym, ap, _∙_, subst}
 use mathlib.Core.Logic.{_⊎_, inl, inr, _↔_, ⊎-elim}
 use mathlib.Core.Bool.{Bool, true, false, _&&_, _||_, not}
@@ -12,21 +12,21 @@ use Rattle.numbers.specs.declared.Controller.{Controller}
 use Rattle.numbers.specs.declared.Dot.{Dot}
 use Rattle.numbers.specs.declared.Key.{Key}
 use Rattle.numbers.specs.Words.{every, all?, some?, ascends?, concat-map, map}
-use Rattle.numbers.specs.Numbers.{last-counter, is-controller, is-counter, same-controller, controllers}
+use Rattle.numbers.specs.Numbers.{last-counter, is-controller, is-counter, is-point, is-job, same-controller, controllers}
 use Rattle.numbers.specs.Dot.{same-dot}
 use Rattle.numbers.specs.Key.{is-key, same-key}
-use Rattle.numbers.proofs.Tests.{by-test, never, and-left, and-right, and-both, or-cases, or-inl, or-inr, _∈_}
-use Rattle.numbers.proofs.Lists.{all-in, in-all, in-map, map-in, in-concat-map, concat-map-in, clause, Passed, passed, _and-also_, all-passed}
+use Rattle.numbers.proofs.Tests.{by-test, never, and-left, and-right, and-both, or-cases, or-inl, or-inr, _∈_, here, there}
+use Rattle.numbers.proofs.Lists.{in-some, all-in, in-all, in-map, map-in, in-concat-map, concat-map-in, clause, Passed, passed, _and-also_, all-passed}
 use Rattle.numbers.proofs.Controllers.{Crew, crew-is, is-crew, crew-in, in-crew}
 use Rattle.numbers.proofs.Orders.{Ascends}
 use Rattle.numbers.proofs.Dots.{same-dots, dot-itself, same-keys, key-itself}
 use Rattle.row.specs.declared.Row.{Row}
 use Rattle.row.specs.Row.{none-seen, fits, sound}
-use Rattle.meaning.specs.CrewTable.{CrewTable, holds}
+use Rattle.meaning.specs.CrewTable.{CrewTable, jobs, holds, share-job}
 use Rattle.meaning.specs.Clock.{Clock, row, every-row}
 use Rattle.meaning.specs.Context.{Context, entry, covers}
 use Rattle.meaning.specs.Object.{Version, version-before, Object}
-use Rattle.meaning.specs.State.{Stored, Listed, dots-of}
+use Rattle.meaning.specs.State.{Stored, Listed, State, peers, dots-of}
 use Rattle.meaning.specs.Message.{contents-formed, version-formed, versions-formed, context-formed, most-versions, point-formed, covers-all, is-none, clock-formed, dots-agree}
 use Rattle.meaning.proofs.ContextLaws.{Named}
 
@@ -36,6 +36,27 @@ each-controller f t n c = all-in f controllers t (crew-in n c)
 
 pub every-controller : (f : Controller → Bool) → ((n : Controller) → Crew n → f n ≡ true) → all? f controllers ≡ true
 every-controller f h = in-all f controllers (λ n m. h n (in-crew n m))
+
+-- ---- jobs and peers
+
+job-in : (j : ℕ) → j ≤ 7 → j ∈ jobs
+job-in zero h = here refl
+job-in (suc zero) h = there (here refl)
+job-in (suc (suc zero)) h = there (there (here refl))
+job-in (suc (suc (suc zero))) h = there (there (there (here refl)))
+job-in (suc (suc (suc (suc zero)))) h = there (there (there (there (here refl))))
+job-in (suc (suc (suc (suc (suc zero))))) h = there (there (there (there (there (here refl)))))
+job-in (suc (suc (suc (suc (suc (suc zero)))))) h = there (there (there (there (there (there (here refl))))))
+job-in (suc (suc (suc (suc (suc (suc (suc zero))))))) h = there (there (there (there (there (there (there (here refl)))))))
+job-in (suc (suc (suc (suc (suc (suc (suc (suc j)))))))) h = absurd (omega arith)
+
+-- two holders of a point's job are peers
+pub holders-peers : (s : State) (n m : Controller) (k : Key) → is-key k ≡ true → holds (s .table) n (k .job) ≡ true → holds (s .table) m (k .job) ≡ true → peers s n m ≡ true
+unfolding peers share-job is-key is-job
+holders-peers s n m k g p q =
+    or-inr (same-controller n m) (some? (λ i. holds (s .table) n i && holds (s .table) m i) jobs)
+    (in-some (λ i. holds (s .table) n i && holds (s .table) m i) jobs (job-in (k .job) (leb-true (k .job) 7 (and-left (leb (k .job) 7) (is-point (k .point)) g)))
+    (and-both (holds (s .table) n (k .job)) (holds (s .table) m (k .job)) p q))
 
 -- ---- versions
 

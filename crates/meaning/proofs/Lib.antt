@@ -6,3 +6,4 @@ pub mod Facts
 pub mod Goodness
 pub mod Entering
 pub mod Putting
+pub mod Settling
