@@ -7,3 +7,6 @@ pub mod Goodness
 pub mod Entering
 pub mod Putting
 pub mod Settling
+pub mod Local
+pub mod Answers
+pub mod Writing
