@@ -10,3 +10,5 @@ pub mod Settling
 pub mod Local
 pub mod Answers
 pub mod Writing
+pub mod Merging
+pub mod OtherSteps

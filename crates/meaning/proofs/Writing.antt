@@ -20,7 +20,8 @@ use Rattle.numbers.proofs.Lists.{in-keep, in-place, place-here}
 use Rattle.numbers.proofs.Controllers.{Crew, same-controllers, controller-itself}
 use Rattle.numbers.proofs.Orders.{Ascends, keep-ascends, place-ascends, one-thing, map-ascends, place-all-length}
 use Rattle.row.specs.declared.Row.{Row}
-use Rattle.row.proofs.Members.{whole-has}
+use Rattle.row.specs.Row.{has}
+use Rattle.row.proofs.Members.{low-has, whole-has}
 use Rattle.meaning.specs.CrewTable.{CrewTable, holds}
 use Rattle.meaning.specs.Clock.{Clock, row, in-clock}
 use Rattle.meaning.specs.Context.{Context, entry, covers}
@@ -41,7 +42,12 @@ use Rattle.meaning.proofs.Local.{ObjectFacts, LocalFacts, local-facts}
 -- an own dot that is in the clock is at most the own base
 pub own-known : (s : State) → Good s → (d : Dot) → d .who ≡ s .own → in-clock (s .clock) d ≡ true → d .count .0 ≤ own-base s
 unfolding in-clock
-own-known s G d e h = whole-has (row (s .clock) (s .own)) (d .count) (G .own-whole) (subst (λ (n : Controller). Rattle.row.specs.Row.has (row (s .clock) n) (d .count) ≡ true) e h)
+own-known s G d e h = whole-has (row (s .clock) (s .own)) (d .count) (G .own-whole) (subst (λ (n : Controller). has (row (s .clock) n) (d .count) ≡ true) e h)
+
+-- and one up to the own base is in the clock
+pub known-own : (s : State) (d : Dot) → d .who ≡ s .own → 0 < d .count .0 → d .count .0 ≤ own-base s → in-clock (s .clock) d ≡ true
+unfolding in-clock
+known-own s d e pos low = subst (λ (n : Controller). has (row (s .clock) n) (d .count) ≡ true) (sym e) (low-has (row (s .clock) (s .own)) (d .count) pos low)
 
 module _ (s : State) (G : Good s) (k : Key) (b : Contents) (c : Context)
     (key-good : is-key k ≡ true) (held : holds (s .table) (s .own) (k .job) ≡ true) (said : contents-formed b ≡ true)
@@ -160,7 +166,7 @@ module _ (s : State) (G : Good s) (k : Key) (b : Contents) (c : Context)
       whole : row (entered (s .clock) (result ∷ [])) (s .own) .bits ≡ 0
       whole = rw (entered-row (s .clock) (result ∷ []) (s .own) (G .own-crew)) (add-all-whole (row (s .clock) (s .own)) (counts (s .own) (dots-of (result ∷ []))) (G .own-whole) small)
 
-      has-it : Rattle.row.specs.Row.has (row (entered (s .clock) (result ∷ [])) (s .own)) (counter (own-base s + 1)) ≡ true
+      has-it : has (row (entered (s .clock) (result ∷ [])) (s .own)) (counter (own-base s + 1)) ≡ true
       has-it = unfold in-clock next-dot in
           (entered-dots (s .clock) (result ∷ []) counted (record { dot = fresh .dot; key = k }) (dots-in (result ∷ []) {p = result} (here refl) fresh-in) (G .own-crew))
 

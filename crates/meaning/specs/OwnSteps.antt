@@ -20,12 +20,10 @@ use Rattle.meaning.specs.State.{Stored, State, own-base, local}
 use Rattle.meaning.specs.Message.{Outgoing, longest-value}
 use Rattle.meaning.specs.Settle.{most-listed, put, settle}
 
--- "Start: a fresh image from a number and a table."
-unfoldable pub start : Controller → CrewTable → Answer State
-start n t =
-    refuse OutOfRange when not (is-controller n) else
-    accepted
-    (record {
+-- a controller that has seen nothing
+abbrev pub fresh : Controller → CrewTable → State
+fresh n t =
+    record {
       own = n;
       table = t;
       clock = each (λ m. none-seen);
@@ -33,7 +31,13 @@ start n t =
       own-dots = [];
       foreign-dots = [];
       points = [];
-    })
+    }
+
+-- "Start: a fresh image from a number and a table."
+unfoldable pub start : Controller → CrewTable → Answer State
+start n t =
+    refuse OutOfRange when not (is-controller n) else
+    accepted (fresh n t)
 
 -- the arguments are in their ranges, and the job is held here
 unfoldable pub ours : State → Key → Bool

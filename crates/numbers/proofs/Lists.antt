@@ -7,7 +7,7 @@ use mathlib.Core.List.{List, [], _∷_, _++_, List·Memᴰ·append-cases, List·
 use native.Mathlib.Omega.{arith}
 use lib.ListN.{getD}
 use Rattle.numbers.specs.Words.{if_then_else_, every, cons-if, keep, some?, all?, place, place-all, map, concat-map}
-use Rattle.numbers.proofs.Tests.{by-test, and-left, and-right, and-both, or-cases, or-inl, or-inr, _∈_, here, there}
+use Rattle.numbers.proofs.Tests.{by-test, never, and-left, and-right, and-both, or-cases, or-inl, or-inr, _∈_, here, there}
 
 -- membership in an append
 pub in-left : {A : Type 0} (xs ys : List A) {v : A} → v ∈ xs → v ∈ xs ++ ys
@@ -57,6 +57,10 @@ module _ {A : Type 0} where
   in-some f [] m t = absurd (List·Memᴰ·not-nil m)
   in-some f (x ∷ xs) m t =
       ⊎-elim (λ e. or-inl (f x) (some? f xs) (sym (ap f e) ∙ t)) (λ h. or-inr (f x) (some? f xs) (in-some f xs h t)) (List·Memᴰ·cases-cons m)
+
+  -- none of them passes
+  pub none-in : (f : A → Bool) (xs : List A) {x : A} → some? f xs ≡ false → x ∈ xs → f x ≡ false
+  none-in f xs {x} t m = by-test (f x) (λ e. never (in-some f xs m e) t) (λ e. e)
 
   -- all of them pass
   pub all-in : (f : A → Bool) (xs : List A) {x : A} → all? f xs ≡ true → x ∈ xs → f x ≡ true

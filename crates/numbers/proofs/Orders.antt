@@ -175,6 +175,38 @@ module _ {A : Type 0} (b : A → A → Bool) where
     one-thing x (a ∷ c ∷ xs) t h =
         never (ascends-first a (c ∷ xs) t (here refl)) (subst (λ (z : A). b a z ≡ false) (h a (here refl) ∙ sym (h c (there (here refl)))) (O .itself a))
 
+    -- an ascending list, each of which stands at the place of one of another, is no longer than that
+    pub no-longer : (xs ys : List A) → Ascends xs → Ascends ys → ((v : A) → v ∈ xs → (w : A) × (w ∈ ys) × Tied b v w) → length xs ≤ length ys
+    no-longer [] ys t u h = omega arith
+    no-longer (x ∷ xs) [] t u h = absurd (List·Memᴰ·not-nil (h x (here refl) .1))
+    no-longer (x ∷ xs) (y ∷ ys) t u h =
+        let same : length xs ≤ length ys → length (x ∷ xs) ≤ length (y ∷ ys) = λ l. omega arith in
+        let less : length (x ∷ xs) ≤ length ys → length (x ∷ xs) ≤ length (y ∷ ys) = λ l. omega arith in
+        by-test (b y x) (λ p. less (no-longer (x ∷ xs) ys t (ascends-rest y ys u) (beyond p)))
+        (λ p. same (no-longer xs ys (ascends-rest x xs t) (ascends-rest y ys u) (others p)))
+      where
+        -- where y comes before x it stands at the place of none
+        beyond : b y x ≡ true → (v : A) → v ∈ x ∷ xs → (w : A) × (w ∈ ys) × Tied b v w
+        beyond p v m =
+            let q = h v m in
+            let yv : b y v ≡ true = ⊎-elim (λ e. ap (b y) e ∙ p) (λ k. O .through y x v p (ascends-first x xs t k)) (List·Memᴰ·cases-cons m) in
+            ⊎-elim (λ e. never yv (subst (λ (z : A). b z v ≡ false) e (q .2 .1))) (λ k. (q .0, k, q .2)) (List·Memᴰ·cases-cons (q .1))
+
+        -- where it does not, those after x come after y too
+        others : b y x ≡ false → (v : A) → v ∈ xs → (w : A) × (w ∈ ys) × Tied b v w
+        others p v m =
+            let q = h v (there m) in
+            let xv : b x v ≡ true = ascends-first x xs t m in
+            ⊎-elim (λ e. absurd (apart v xv (subst (λ (z : A). Tied b v z) e (q .2)))) (λ k. (q .0, k, q .2)) (List·Memᴰ·cases-cons (q .1))
+          where
+            -- x would come before y, and so could not be tied to anything of y ∷ ys
+            apart : (z : A) → b x z ≡ true → Tied b z y → ⊥
+            apart z xz tie =
+                let xy : b x y ≡ true = sym (O .tied-right z y x tie) ∙ xz in
+                let r = h x (here refl) in
+                ⊎-elim (λ e. never xy (subst (λ (a : A). b x a ≡ false) e (r .2 .0)))
+                (λ k. never (O .through x y (r .0) xy (ascends-first y ys u k)) (r .2 .0)) (List·Memᴰ·cases-cons (r .1))
+
     -- two ascending lists with the same members are the same
     pub ascending-same : (xs ys : List A) → Ascends xs → Ascends ys → ((v : A) → (v ∈ xs) ↔ (v ∈ ys)) → xs ≡ ys
     ascending-same [] [] t u h = refl
