@@ -12,3 +12,4 @@ pub mod Answers
 pub mod Writing
 pub mod Merging
 pub mod OtherSteps
+pub mod StaysGood
