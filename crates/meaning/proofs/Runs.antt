@@ -10,7 +10,7 @@ use Rattle.numbers.specs.Words.{map}
 use Rattle.numbers.specs.Numbers.{controller, counter}
 use Rattle.numbers.specs.Dot.{dot}
 use Rattle.numbers.specs.Key.{key}
-use Rattle.refusal.specs.declared.Refusal.the-variants.{NotPeer, RowTooFar, TooManyVersions, OwnListFull}
+use Rattle.refusal.specs.declared.Refusal.the-variants.{NotPeer, DotClash, RowTooFar, TooManyVersions, OwnListFull}
 use Rattle.refusal.specs.Refusal.{Answer, refused, accepted, _>>=_}
 use Rattle.row.specs.declared.Row.{Row}
 use Rattle.meaning.specs.CrewTable.{CrewTable}
@@ -160,3 +160,68 @@ far-off = (refl, refl)
 just-fits : (far 64 >>= counted) ≡ accepted (1, 0, 1, true)
 unfolding everything
 just-fits = refl
+
+-- ---- further runs
+
+-- n writes of point 7 by controller 3, each of which covers all before it; controller 2 takes each in
+abbrev told : ℕ → State → State → Answer State
+told zero three two = accepted two
+told (suc n) three two = do
+  d ← write three p7 text (counter 0 ∷ counter 0 ∷ counter (own-base three) ∷ counter 0 ∷ counter 0 ∷ counter 0 ∷ counter 0 ∷ counter 0 ∷ [])
+  two ← take-in two (d .message)
+  told n (d .state) two
+
+-- controller 2 lists fifty dots of controller 1, which controller 3 may lack; of eleven more dots there is room for ten
+abbrev listing : Answer Count
+listing = do
+  fresh ← start (controller 1) three-hold
+  writer ← spread 50 fresh
+  two ← start (controller 2) three-hold
+  q ← ask two (controller 1)
+  r ← reply writer q
+  two ← repair two (r .message)
+  three ← start (controller 3) three-hold
+  two ← told 11 three two
+  counted two
+
+sixty-foreign : listing ≡ accepted (50, 0, 60, true)
+unfolding everything
+sixty-foreign = refl
+
+-- a made-up message that gives a listed dot another point: 1.1 is point 7's here, though its record has gone
+abbrev misnamed : Answer State
+misnamed = do
+  fresh ← start (controller 1) three-hold
+  a ← write fresh p7 text no-context
+  b ← delete (a .state) p7 (up-to 1)
+  two ← start (controller 2) three-hold
+  two ← take-in two (a .message)
+  two ← take-in two (b .message)
+  take-in two (record { sender = controller 1; key = key 0 8; object = a .message .object })
+
+no-other-point : misnamed ≡ refused DotClash
+unfolding everything
+no-other-point = refl
+
+-- job 0 is held by 1 and 2, job 1 by 2 and 3: controller 3 is no peer of controller 1, whose watermark stays zero for it; so 2.1 stays
+-- listed, since controller 3 is a peer of 2
+abbrev two-jobs : CrewTable
+two-jobs = 3 ∷ 6 ∷ 0 ∷ 0 ∷ 0 ∷ 0 ∷ 0 ∷ 0 ∷ []
+
+abbrev between-jobs : Answer (ℕ × Count)
+between-jobs = do
+  three ← start (controller 3) two-jobs
+  d ← write three (key 1 7) text no-context
+  two ← start (controller 2) two-jobs
+  two ← take-in two (d .message)
+  c ← write two p7 text no-context
+  first ← start (controller 1) two-jobs
+  q ← ask first (controller 2)
+  r ← reply (c .state) q
+  first ← repair first (r .message)
+  n ← counted first
+  accepted (r .count, n)
+
+not-beyond : between-jobs ≡ accepted (1, (1, 0, 1, true))
+unfolding everything
+not-beyond = refl

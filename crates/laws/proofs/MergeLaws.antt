@@ -16,9 +16,9 @@ use Rattle.numbers.proofs.Lists.{in-keep, keep-in, some-in, in-some, in-place-a
 use Rattle.numbers.proofs.Controllers.{Crew, each-same, each-entry}
 use Rattle.numbers.proofs.Orders.{Order, by-pair, Ascends, one-place, keep-ascends, place-all-ascends, ascending-same}
 use Rattle.numbers.proofs.Dots.{same-dots, dot-itself, tied-dots, dots-tied}
 use Rattle.meaning.specs.Context.{Context, entry, covers, higher}
 use Rattle.meaning.specs.Object.{Version, version-before, Object, has-dot, survivors, merge}
-use Rattle.meaning.proofs.ContextLaws.{same-counter, Within, covers-le, le-covers, not-covers-lt, covers-within, higher-entry}
+use Rattle.laws.proofs.ContextLaws.{same-counter, Within, covers-le, le-covers, not-covers-lt, covers-within, higher-entry}
 
 pub version-order : Order version-before
 version-order = by-pair (λ v. v .dot .who .0) (λ v. v .dot .count .0)

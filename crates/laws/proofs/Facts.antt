@@ -22,13 +22,13 @@ use Rattle.numbers.proofs.Orders.{Ascends}
 use Rattle.numbers.proofs.Dots.{same-dots, dot-itself, same-keys, key-itself}
 use Rattle.row.specs.declared.Row.{Row}
 use Rattle.row.specs.Row.{none-seen, fits, sound}
 use Rattle.meaning.specs.CrewTable.{CrewTable, jobs, holds, share-job}
 use Rattle.meaning.specs.Clock.{Clock, row, every-row}
 use Rattle.meaning.specs.Context.{Context, entry, covers}
 use Rattle.meaning.specs.Object.{Version, version-before, Object}
 use Rattle.meaning.specs.State.{Stored, Listed, State, peers, dots-of}
 use Rattle.meaning.specs.Message.{contents-formed, version-formed, versions-formed, context-formed, most-versions, point-formed, covers-all, is-none, clock-formed, dots-agree}
-use Rattle.meaning.proofs.ContextLaws.{Named}
+use Rattle.laws.proofs.ContextLaws.{Named}
 
 -- what holds of every controller passes of the controllers, and the other way round
 pub each-controller : (f : Controller → Bool) → all? f controllers ≡ true → (n : Controller) → Crew n → f n ≡ true

@@ -25,27 +25,27 @@ use Rattle.row.specs.declared.Row.{Row}
 use Rattle.row.specs.Row.{none-seen, highest, fits, sound, unite}
 use Rattle.row.proofs.Uniting.{unite-has, unite-base}
 use Rattle.row.proofs.Highest.{base-highest, sound-base, unite-sound}
 use Rattle.meaning.specs.CrewTable.{CrewTable, is-table, holds, in-some-job}
 use Rattle.meaning.specs.Clock.{Clock, row, every-row, in-clock, with-row}
 use Rattle.meaning.specs.Context.{Context, entry, covers, fill-context}
 use Rattle.meaning.specs.Object.{Contents, value, deleted, Version, Object, fill, merge}
 use Rattle.meaning.specs.State.{Stored, stored-before, State, peers, own-base, dots-of, local}
 use Rattle.meaning.specs.Message.{Outgoing, Ask, Reply, longest-value, contents-formed, point-formed, covers-all, is-none, clock-formed, dots-agree, outgoing-formed, reply-formed}
 use Rattle.meaning.specs.Settle.{most-listed, entered, settled, settle}
 use Rattle.meaning.specs.OwnSteps.{start, ours, read, written, context-ahead, Done, put-down, write, delete, strip-pass}
 use Rattle.meaning.specs.Exchange.{both-hold, other-peer, ahead-of-us, row-ahead-of-us, clashes, take-in, ask, Replied, reply, tidied, mended, repair}
 use Rattle.meaning.specs.Step.{Step, reads, writes, deletes, takes-in, asks, replies, repairs, strips, step}
 use Rattle.meaning.specs.Good.{goodState}
-use Rattle.meaning.proofs.ContextLaws.{fill-holder}
-use Rattle.meaning.proofs.Facts.{PointFacts, point-facts, covers-each, row-at, dots-in, agree-at}
-use Rattle.meaning.proofs.Goodness.{Good, good-facts, facts-good}
-use Rattle.meaning.proofs.Entering.{united-row, entered-base}
-use Rattle.meaning.proofs.Settling.{settled-good}
-use Rattle.meaning.proofs.Local.{fill-context-facts}
-use Rattle.meaning.proofs.Answers.{same-accepted, passes, passes-not, bound, settle-accepted}
-use Rattle.meaning.proofs.Writing.{written-fits}
-use Rattle.meaning.proofs.Merging.{Carried, Clocked, merged-fit}
-use Rattle.meaning.proofs.OtherSteps.{start-good, strip-pass-good, tidied-good}
+use Rattle.laws.proofs.ContextLaws.{fill-holder}
+use Rattle.laws.proofs.Facts.{PointFacts, point-facts, covers-each, row-at, dots-in, agree-at}
+use Rattle.laws.proofs.Goodness.{Good, good-facts, facts-good}
+use Rattle.laws.proofs.Entering.{united-row, entered-base}
+use Rattle.laws.proofs.Settling.{settled-good}
+use Rattle.laws.proofs.Local.{fill-context-facts}
+use Rattle.laws.proofs.Answers.{same-accepted, passes, passes-not, bound, settle-accepted}
+use Rattle.laws.proofs.Writing.{written-fits}
+use Rattle.laws.proofs.Merging.{Carried, Clocked, merged-fit}
+use Rattle.laws.proofs.OtherSteps.{start-good, strip-pass-good, tidied-good}
 
 -- ---- write and delete
 

@@ -21,22 +21,22 @@ use Rattle.numbers.proofs.Dots.{same-dots, dot-itself, same-keys}
 use Rattle.row.specs.declared.Row.{Row}
 use Rattle.row.specs.Row.{none-seen, sound}
 use Rattle.row.proofs.Highest.{counter-positive}
 use Rattle.meaning.specs.CrewTable.{holds}
 use Rattle.meaning.specs.Clock.{Clock, row, in-clock}
 use Rattle.meaning.specs.Context.{Context, entry, covers, higher}
 use Rattle.meaning.specs.Object.{same-contents, Version, Object, merge}
 use Rattle.meaning.specs.State.{Stored, Listed, listed-before, State, peers, own-base, listed, dots-of, local}
 use Rattle.meaning.specs.Settle.{most-listed, entered, newly-listed, own-listed}
 use Rattle.meaning.specs.Exchange.{clashes}
-use Rattle.meaning.proofs.ContextLaws.{Rising, higher-entry, higher-named}
-use Rattle.meaning.proofs.MergeLaws.{merge-from, merge-ascends, WellFormed, merge-formed}
-use Rattle.meaning.proofs.Facts.{VersionFacts, VersionsFacts, ContextFacts, in-dots}
-use Rattle.meaning.proofs.Goodness.{Good}
-use Rattle.meaning.proofs.Entering.{entered-base}
-use Rattle.meaning.proofs.Putting.{in-newly}
-use Rattle.meaning.proofs.Settling.{Growing, Results}
-use Rattle.meaning.proofs.Local.{ObjectFacts, LocalFacts, local-facts}
-use Rattle.meaning.proofs.Writing.{own-known, known-own}
+use Rattle.laws.proofs.ContextLaws.{Rising, higher-entry, higher-named}
+use Rattle.laws.proofs.MergeLaws.{merge-from, merge-ascends, WellFormed, merge-formed}
+use Rattle.laws.proofs.Facts.{VersionFacts, VersionsFacts, ContextFacts, in-dots}
+use Rattle.laws.proofs.Goodness.{Good}
+use Rattle.laws.proofs.Entering.{entered-base}
+use Rattle.laws.proofs.Putting.{in-newly}
+use Rattle.laws.proofs.Settling.{Growing, Results}
+use Rattle.laws.proofs.Local.{ObjectFacts, LocalFacts, local-facts}
+use Rattle.laws.proofs.Writing.{own-known, known-own}
 
 -- ---- no clash
 

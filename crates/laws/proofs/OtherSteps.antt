@@ -21,19 +21,19 @@ use Rattle.refusal.specs.Refusal.{Answer, accepted}
 use Rattle.row.specs.declared.Row.{Row}
 use Rattle.row.specs.Row.{none-seen, digits, highest, fits, sound}
 use Rattle.row.proofs.Highest.{sound-base}
 use Rattle.meaning.specs.CrewTable.{CrewTable, is-table, share-job}
 use Rattle.meaning.specs.Clock.{Clock, row}
 use Rattle.meaning.specs.Object.{Version, strip, gone}
 use Rattle.meaning.specs.State.{Stored, stored-before, Listed, listed-before, Watermark, mark, State, peers, own-base, listed}
 use Rattle.meaning.specs.Message.{Reply}
 use Rattle.meaning.specs.Settle.{most-points, stripped, put}
 use Rattle.meaning.specs.OwnSteps.{fresh, start, strip-pass}
 use Rattle.meaning.specs.Exchange.{raised, known-to-all, tidied}
-use Rattle.meaning.proofs.Goodness.{RecordFacts, Good}
-use Rattle.meaning.proofs.Entering.{row-each}
-use Rattle.meaning.proofs.Putting.{stored-order, From, stays, comes, put-all-ascends, in-put-all}
-use Rattle.meaning.proofs.Settling.{strip-record}
-use Rattle.meaning.proofs.Answers.{passes-not, same-accepted}
+use Rattle.laws.proofs.Goodness.{RecordFacts, Good}
+use Rattle.laws.proofs.Entering.{row-each}
+use Rattle.laws.proofs.Putting.{stored-order, From, stays, comes, put-all-ascends, in-put-all}
+use Rattle.laws.proofs.Settling.{strip-record}
+use Rattle.laws.proofs.Answers.{passes-not, same-accepted}
 
 -- one number for each pair of controllers
 pub mark-each : (f : Controller → Controller → ℕ) (m n : Controller) → Crew m → Crew n → mark (each (λ a. each (f a))) m n ≡ f m n

@@ -13,12 +13,12 @@ use Rattle.refusal.specs.declared.Refusal.{Refusal}
 use Rattle.refusal.specs.declared.Refusal.the-variants.{RowTooFar, TooManyVersions, TooManyPoints}
 use Rattle.refusal.specs.Refusal.{Answer, refused, accepted, refuse_when_else_, _>>=_}
 use Rattle.row.specs.Row.{fits}
 use Rattle.meaning.specs.Clock.{Clock, every-row}
 use Rattle.meaning.specs.State.{Stored, State}
 use Rattle.meaning.specs.Message.{most-versions}
 use Rattle.meaning.specs.Settle.{most-points, settled, settle}
-use Rattle.meaning.proofs.Facts.{row-at}
-use Rattle.meaning.proofs.Settling.{Limits}
+use Rattle.laws.proofs.Facts.{row-at}
+use Rattle.laws.proofs.Settling.{Limits}
 
 module _ {A : Type 0} where
   abbrev is-accepted : Answer A → Type 0

@@ -15,15 +15,15 @@ use Rattle.numbers.proofs.Lists.{all-in, in-all, clause, Passed, passed, _and-a
 use Rattle.numbers.proofs.Controllers.{Crew, crew-is, is-crew}
 use Rattle.numbers.proofs.Orders.{Ascends}
 use Rattle.row.specs.Row.{none-seen, fits, sound}
 use Rattle.meaning.specs.CrewTable.{CrewTable, is-table, holds}
 use Rattle.meaning.specs.Clock.{Clock, row, in-clock}
 use Rattle.meaning.specs.Context.{entry, covers, fill-context}
 use Rattle.meaning.specs.Object.{Version, Object, gone}
 use Rattle.meaning.specs.State.{Stored, stored-before, Listed, listed-before, mark, State, peers, own-base, listed, dots-of}
 use Rattle.meaning.specs.Message.{point-formed, covers-all, is-none, dots-agree}
 use Rattle.meaning.specs.Settle.{most-points, most-listed}
 use Rattle.meaning.specs.Good.{sized, rows-sound, own-row-whole, points-formed, points-ascend, listed-formed, lists-formed, lists-ascend, lists-apart, jobs-held, versions-covered, versions-in-clock, lists-in-clock, dots-apart, rows-of-peers, marks-of-peers, own-marks-known, own-entries-known, records-needed, clauses, goodState}
-use Rattle.meaning.proofs.Facts.{each-controller, every-controller, PointFacts, point-facts, point-of-facts, covers-each, each-covered, none-is, is-none-seen, row-at, at-every-row, DotOf, in-dots, dots-in, agree-at, at-agree}
+use Rattle.laws.proofs.Facts.{each-controller, every-controller, PointFacts, point-facts, point-of-facts, covers-each, each-covered, none-is, is-none-seen, row-at, at-every-row, DotOf, in-dots, dots-in, agree-at, at-agree}
 
 -- what is known of one record, but that it is needed
 pub record RecordFacts (t : CrewTable) (own : Controller) (k : Clock) (p : Stored) : Type 0 where

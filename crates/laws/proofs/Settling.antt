@@ -20,19 +20,19 @@ use Rattle.numbers.proofs.Orders.{Ascends}
 use Rattle.row.specs.declared.Row.{Row}
 use Rattle.row.specs.Row.{none-seen, has, fits, sound}
 use Rattle.row.proofs.Adding.{add-all}
 use Rattle.meaning.specs.CrewTable.{CrewTable, jobs, holds, share-job}
 use Rattle.meaning.specs.Clock.{Clock, row, in-clock}
 use Rattle.meaning.specs.Context.{Context, entry, covers, fill-context, strip-context}
 use Rattle.meaning.specs.Object.{Version, Object, strip, gone}
 use Rattle.meaning.specs.State.{Stored, stored-before, Listed, State, peers, own-base, listed, dots-of}
 use Rattle.meaning.specs.Message.{most-versions, versions-formed, context-formed}
 use Rattle.meaning.specs.Settle.{most-points, most-listed, entered, stripped, put, newly-listed, own-listed, foreign-listed, settled}
 use Rattle.meaning.specs.Good.{listed-formed}
-use Rattle.meaning.proofs.ContextLaws.{Rising, Within, Named, covers-within, strip-cases, strip-within, strip-named, fill-strip, fill-raises, fill-monotone}
-use Rattle.meaning.proofs.Facts.{holders-peers, VersionFacts, VersionsFacts, ContextFacts, PointFacts, DotOf, in-dots, dots-in}
-use Rattle.meaning.proofs.Goodness.{RecordFacts, ListedFacts, Good}
-use Rattle.meaning.proofs.Entering.{entered-row, entered-eight, counts, in-counts, add-all-sound, add-all-whole, entered-more, entered-dots, entered-base}
-use Rattle.meaning.proofs.Putting.{From, stays, comes, put-all-ascends, in-put-all, in-newly, in-own-listed, in-foreign-listed, in-listed, own-listed-ascends, foreign-listed-ascends, foreign-listed-few}
+use Rattle.laws.proofs.ContextLaws.{Rising, Within, Named, covers-within, strip-cases, strip-within, strip-named, fill-strip, fill-raises, fill-monotone}
+use Rattle.laws.proofs.Facts.{holders-peers, VersionFacts, VersionsFacts, ContextFacts, PointFacts, DotOf, in-dots, dots-in}
+use Rattle.laws.proofs.Goodness.{RecordFacts, ListedFacts, Good}
+use Rattle.laws.proofs.Entering.{entered-row, entered-eight, counts, in-counts, add-all-sound, add-all-whole, entered-more, entered-dots, entered-base}
+use Rattle.laws.proofs.Putting.{From, stays, comes, put-all-ascends, in-put-all, in-newly, in-own-listed, in-foreign-listed, in-listed, own-listed-ascends, foreign-listed-ascends, foreign-listed-few}
 
 -- every dot that is in the clock k is in the clock l
 abbrev pub Growing : Clock → Clock → Type 0

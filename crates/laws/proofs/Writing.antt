@@ -22,22 +22,22 @@ use Rattle.numbers.proofs.Orders.{Ascends, keep-ascends, place-ascends, one-thi
 use Rattle.row.specs.declared.Row.{Row}
 use Rattle.row.specs.Row.{has}
 use Rattle.row.proofs.Members.{low-has, whole-has}
 use Rattle.meaning.specs.CrewTable.{CrewTable, holds}
 use Rattle.meaning.specs.Clock.{Clock, row, in-clock}
 use Rattle.meaning.specs.Context.{Context, entry, covers}
 use Rattle.meaning.specs.Object.{Contents, Version, version-before, Object}
 use Rattle.meaning.specs.State.{Stored, Listed, listed-before, State, own-base, listed, dots-of, local}
 use Rattle.meaning.specs.Message.{contents-formed}
 use Rattle.meaning.specs.Settle.{most-listed, entered, newly-listed, own-listed}
 use Rattle.meaning.specs.OwnSteps.{next-dot, written}
-use Rattle.meaning.proofs.ContextLaws.{entry-each, Within, covers-within, le-covers}
-use Rattle.meaning.proofs.MergeLaws.{version-order}
-use Rattle.meaning.proofs.Facts.{VersionFacts, VersionsFacts, ContextFacts, in-dots, dots-in}
-use Rattle.meaning.proofs.Goodness.{Good}
-use Rattle.meaning.proofs.Entering.{entered-row, counts, in-counts, add-all-whole, entered-dots}
-use Rattle.meaning.proofs.Putting.{listed-order, in-newly}
-use Rattle.meaning.proofs.Settling.{Results}
-use Rattle.meaning.proofs.Local.{ObjectFacts, LocalFacts, local-facts}
+use Rattle.laws.proofs.ContextLaws.{entry-each, Within, covers-within, le-covers}
+use Rattle.laws.proofs.MergeLaws.{version-order}
+use Rattle.laws.proofs.Facts.{VersionFacts, VersionsFacts, ContextFacts, in-dots, dots-in}
+use Rattle.laws.proofs.Goodness.{Good}
+use Rattle.laws.proofs.Entering.{entered-row, counts, in-counts, add-all-whole, entered-dots}
+use Rattle.laws.proofs.Putting.{listed-order, in-newly}
+use Rattle.laws.proofs.Settling.{Results}
+use Rattle.laws.proofs.Local.{ObjectFacts, LocalFacts, local-facts}
 
 -- an own dot that is in the clock is at most the own base
 pub own-known : (s : State) → Good s → (d : Dot) → d .who ≡ s .own → in-clock (s .clock) d ≡ true → d .count .0 ≤ own-base s

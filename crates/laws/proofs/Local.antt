@@ -12,15 +12,15 @@ use Rattle.numbers.specs.Numbers.{last-counter}
 use Rattle.numbers.proofs.Tests.{by-test, _∈_}
 use Rattle.numbers.proofs.Controllers.{Crew}
 use Rattle.row.proofs.Highest.{sound-base}
 use Rattle.meaning.specs.CrewTable.{CrewTable, holds}
 use Rattle.meaning.specs.Clock.{Clock, row, in-clock}
 use Rattle.meaning.specs.Context.{Context, entry, no-context, covers, fill-context}
 use Rattle.meaning.specs.Object.{Version, Object, no-object, fill}
 use Rattle.meaning.specs.State.{Stored, State, own-base, look-up, local}
-use Rattle.meaning.proofs.ContextLaws.{fill-holder, fill-other, fill-named, no-entry}
-use Rattle.meaning.proofs.Facts.{VersionsFacts, ContextFacts}
-use Rattle.meaning.proofs.Goodness.{RecordFacts, Good}
-use Rattle.meaning.proofs.Putting.{looked-up}
+use Rattle.laws.proofs.ContextLaws.{fill-holder, fill-other, fill-named, no-entry}
+use Rattle.laws.proofs.Facts.{VersionsFacts, ContextFacts}
+use Rattle.laws.proofs.Goodness.{RecordFacts, Good}
+use Rattle.laws.proofs.Putting.{looked-up}
 
 -- a context filled with rows in range is well-formed again
 pub fill-context-facts : (t : CrewTable) (j : ℕ) (k : Clock) (c : Context) → ((n : Controller) → Crew n → row k n .base ≤ last-counter) → ContextFacts t j c → ContextFacts t j (fill-context t j k c)

@@ -1,0 +1,13 @@
+pub mod ContextLaws
+pub mod MergeLaws
+pub mod Facts
+pub mod Goodness
+pub mod Entering
+pub mod Putting
+pub mod Settling
+pub mod Local
+pub mod Answers
+pub mod Writing
+pub mod Merging
+pub mod OtherSteps
+pub mod StaysGood

@@ -1,0 +1,58 @@
+//! The nine calls as one thing that can be handed around, so that the simulator can be run on other stores than ours: the
+//! tests run it on stores with a planted fault, to see that it notices.
+
+use crate::calls;
+use crate::refusal::Refusal;
+
+/// The nine calls. By default they are this program's.
+pub trait Store {
+    /// See [`calls::start`].
+    fn start(&self, image: &mut [u8], number: u8, table: &[u8]) -> Result<(), Refusal> {
+        calls::start(image, number, table)
+    }
+    /// See [`calls::read`].
+    fn read(&self, image: &[u8], job: u8, point: u16, out: &mut [u8]) -> Result<(), Refusal> {
+        calls::read(image, job, point, out)
+    }
+    /// See [`calls::write`].
+    fn write(
+        &self,
+        image: &mut [u8],
+        job: u8,
+        point: u16,
+        value: &[u8],
+        context: &[u32],
+        out: &mut [u8],
+    ) -> Result<(), Refusal> {
+        calls::write(image, job, point, value, context, out)
+    }
+    /// See [`calls::delete`].
+    fn delete(&self, image: &mut [u8], job: u8, point: u16, context: &[u32], out: &mut [u8]) -> Result<(), Refusal> {
+        calls::delete(image, job, point, context, out)
+    }
+    /// See [`calls::take_in`].
+    fn take_in(&self, image: &mut [u8], message: &[u8]) -> Result<(), Refusal> {
+        calls::take_in(image, message)
+    }
+    /// See [`calls::ask`].
+    fn ask(&self, image: &[u8], to: u8, out: &mut [u8]) -> Result<(), Refusal> {
+        calls::ask(image, to, out)
+    }
+    /// See [`calls::reply`].
+    fn reply(&self, image: &[u8], ask: &[u8], out: &mut [u8]) -> Result<u32, Refusal> {
+        calls::reply(image, ask, out)
+    }
+    /// See [`calls::repair`].
+    fn repair(&self, image: &mut [u8], reply: &[u8]) -> Result<(), Refusal> {
+        calls::repair(image, reply)
+    }
+    /// See [`calls::strip_pass`].
+    fn strip_pass(&self, image: &mut [u8]) -> Result<u32, Refusal> {
+        calls::strip_pass(image)
+    }
+}
+
+/// This program's calls.
+pub struct Second;
+
+impl Store for Second {}
