@@ -294,7 +294,7 @@ impl<W: Write> Maker<'_, W> {
             } else {
                 *self.random.pick(&active)
             };
-            if self.random.percent(12) {
+            if self.random.percent(18) {
                 self.excursion(&crew, n)?;
                 self.recorder.label(&format!("crew {}", shape.name()))?;
             } else {

@@ -41,10 +41,9 @@ fn fills_with_the_united_clock() {
     struct Faulty;
     impl Store for Faulty {
         fn repair(&self, image: &mut [u8], bytes: &[u8]) -> Result<(), Refusal> {
+            calls::repair(&mut image.to_vec(), bytes)?;
             let mut state = image::decode(image).expect("a good image");
             let reply = Reply::decode(bytes, &state.table)?;
-            let mut united = image.to_vec();
-            calls::repair(&mut united, bytes)?;
             state.clock.unite(reply.head.sender, reply.head.clock.row(reply.head.sender));
             let mut early = image::encode(&state);
             calls::repair(&mut early, bytes)?;
@@ -209,22 +208,16 @@ fn does_not_fill_the_replys_objects() {
     struct Faulty;
     impl Store for Faulty {
         fn repair(&self, image: &mut [u8], bytes: &[u8]) -> Result<(), Refusal> {
-            let table = image::decode(image).expect("a good image").table;
-            let reply = Reply::decode(bytes, &table)?;
             calls::repair(&mut image.to_vec(), bytes)?;
-            // The sender's row is kept for the union, all others are forgotten.
-            let sender = reply.head.sender;
+            // The sender's row is kept for the union, all others are forgotten; the versions stay covered.
             repair_with(image, bytes, |reply| {
-                for (n, row) in reply.head.clock.0.iter_mut().enumerate() {
-                    if n != sender.index() {
-                        *row = Default::default();
-                    }
-                }
-                for (point, object) in &mut reply.points {
+                let kept = reply.head.clock.row(reply.head.sender).clone();
+                reply.head.clock = Default::default();
+                reply.head.clock.0[reply.head.sender.index()] = kept;
+                for object in reply.points.values_mut() {
                     for dot in object.versions.keys() {
                         object.context.raise(dot.controller, dot.counter);
                     }
-                    let _ = point;
                 }
             })
         }

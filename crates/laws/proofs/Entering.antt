@@ -15,10 +15,11 @@ use Rattle.numbers.specs.declared.Dot.{Dot}
 use Rattle.numbers.specs.Words.{if_then_else_, cons-if, fold}
 use Rattle.numbers.specs.Numbers.{is-counter, same-controller, each}
 use Rattle.numbers.proofs.Tests.{by-test, never, _∈_, here, there}
-use Rattle.numbers.proofs.Controllers.{Crew, at-each, same-controllers, controller-itself}
+use Rattle.numbers.proofs.Controllers.{Crew, at-each, each-same, each-entry, same-controllers, controller-itself}
 use Rattle.row.specs.declared.Row.{Row}
 use Rattle.row.specs.Row.{none-seen, has, add, unite, sound}
-use Rattle.row.proofs.Adding.{add-has, add-base, add-old, add-next, add-all, Positive, add-all-has}
+use Rattle.row.proofs.Members.{Clear}
+use Rattle.row.proofs.Adding.{add-base, add-old, add-next, add-all, Positive, add-all-has, any-order}
 use Rattle.row.proofs.Highest.{counter-positive, add-sound}
 use Rattle.meaning.specs.Clock.{Clock, row, in-clock, enter, with-row}
 use Rattle.meaning.specs.State.{Stored, Listed, dots-of}
@@ -134,3 +135,20 @@ module _ (k : Clock) (rs : List Stored) (counted : (l : Listed) → l ∈ dots-o
 
 pub entered-base : (k : Clock) (rs : List Stored) (n : Controller) → Crew n → row k n .base ≤ row (entered k rs) n .base
 entered-base k rs n c = rw (entered-row k rs n c) (add-all-base (row k n) (counts n (dots-of rs)))
+
+-- ---- the order does not matter
+
+-- two clocks of eight rows are the same where their rows are
+pub same-clocks : (k l : Clock) → length k ≡ 8 → length l ≡ 8 → ((n : Controller) → Crew n → row k n ≡ row l n) → k ≡ l
+same-clocks k l p q h = sym (each-entry none-seen k p) ∙ each-same (row k) (row l) h ∙ each-entry none-seen l q
+
+-- the same dots in any order, and any number of times, give the same clock
+pub entered-any-order : (k : Clock) (rs qs : List Stored) → length k ≡ 8 → ((n : Controller) → Crew n → Clear (row k n))
+    → ((l : Listed) → l ∈ dots-of rs → is-counter (l .dot .count) ≡ true) → ((l : Listed) → l ∈ dots-of qs → is-counter (l .dot .count) ≡ true)
+    → ((n : Controller) (c : Counter) → (c ∈ counts n (dots-of rs)) ↔ (c ∈ counts n (dots-of qs))) → entered k rs ≡ entered k qs
+entered-any-order k rs qs eight clear cr cq same =
+    same-clocks (entered k rs) (entered k qs) (entered-eight k rs eight) (entered-eight k qs eight)
+    (λ n c.
+    entered-row k rs n c
+    ∙ any-order (row k n) (counts n (dots-of rs)) (counts n (dots-of qs)) (clear n c) (positive k rs cr n) (positive k qs cq n) (same n)
+    ∙ sym (entered-row k qs n c))

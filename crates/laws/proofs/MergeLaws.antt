@@ -174,12 +174,13 @@ module _ (a b : Object) (A : WellFormed a) (B : WellFormed b) (ab : Agreeing a b
 
   side-of : (x y : Object) → side x y ≡ true → (v : Version) × (v ∈ survivors x y) × (v .dot ≡ d)
   side-of x y t =
-      let q = has-dot-of (x .versions) d (and-left (has-dot (x .versions) d) (has-dot (y .versions) d || not (covers (y .context) d)) t) in
-      (q .0,
+      let q = has-dot-of (x .versions) d (and-left (has-dot (x .versions) d) (has-dot (y .versions) d || not (covers (y .context) d)) t) in (
+        q .0,
         survivors-in x y (q .1)
             (subst (λ (z : Dot). (has-dot (y .versions) z || not (covers (y .context) z)) ≡ true) (sym (q .2))
             (and-right (has-dot (x .versions) d) (has-dot (y .versions) d || not (covers (y .context) d)) t)),
-        q .2)
+        q .2,
+      )
 
   merge-has : has-dot (merge a b .versions) d ≡ (side a b || side b a)
   merge-has = same-test (has-dot (merge a b .versions) d) (side a b || side b a) to from

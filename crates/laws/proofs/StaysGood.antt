@@ -257,7 +257,7 @@ module _ (s : State) (r : Reply) (G : Good s) (formed : reply-formed (s .table) 
   mended-good x e =
       let after = settle-accepted s united (map (mended s r) (r .points)) e in
       let good = settled-good s united (map (mended s r) (r .points)) G
-          (merged-fit s G united united-clock (r .points) (λ p. fill (s .table) (p .key .job) (r .clock) (p .object)) carried (unfold fill in agree)) (after .0) in
+      (merged-fit s G united united-clock (r .points) (λ p. fill (s .table) (p .key .job) (r .clock) (p .object)) carried (unfold fill in agree)) (after .0) in
       subst (λ (y : State). Good (tidied y r)) (after .1)
       (unfold settled peers in
       (tidied-good (settled s united (map (mended s r) (r .points))) r good other sender-peer row-low

@@ -6,6 +6,7 @@ pub mod State
 pub mod Message
 pub mod Settle
 pub mod OwnSteps
+pub mod Write
 pub mod Exchange
 pub mod Step
 pub mod Good

@@ -57,7 +57,8 @@ unfoldable pub next-dot : State → Dot
 next-dot s = record { who = s .own; count = counter (own-base s + 1) }
 
 -- "From the filled local object drop the versions that the given context covers; add the new version; raise the own context entry to
--- the new counter."
+-- the new counter." Document 001's algorithm 1 "puts the new counter in the client's context before merging, which would drop an own
+-- version that the client never read; its text says such a version stays, and the text decides."
 unfoldable pub written : State → Key → Contents → Context → Object
 written s k b c =
     let o = local s k in

@@ -1,7 +1,8 @@
 -- "Storing, in every step." Assumes nothing.
 -- "Local objects are filled with the clock as it was before the step; then all version dots of the results enter the clock, in a
 -- repair the sender's row is united too, and only then are the results stripped, with that new clock. Other records are not
--- touched."
+-- touched." Document 001 "strips before adding dots and before uniting the sender's row. It lists dots anew at each store"; here a dot is
+-- listed once, when it is new to the clock.
 use Prim.Native.Nat.{ℕ, _-_}
 use mathlib.Core.Bool.{Bool, not}
 use mathlib.Core.List.{List, []}

@@ -218,7 +218,7 @@ module _ {A : Type 0} (b : A → A → Bool) where
         first =
             ⊎-elim (λ e. e)
             (λ m. ⊎-elim (λ e. sym e)
-            (λ k. absurd (never (O .through x y x (ascends-first x xs t k) (ascends-first y ys u m)) (O .itself x) ))
+            (λ k. absurd (never (O .through x y x (ascends-first x xs t k) (ascends-first y ys u m)) (O .itself x)))
             (List·Memᴰ·cases-cons (h y .1 (here refl))))
             (List·Memᴰ·cases-cons (h x .0 (here refl)))
 
@@ -242,7 +242,6 @@ map-ascends b c f up (x ∷ xs) t =
 -- ---- lengths
 
 module _ {A : Type 0} (b : A → A → Bool) where
-
   pub keep-length : (f : A → Bool) (xs : List A) → length (keep f xs) ≤ length xs
   keep-length f [] = le-refl 0
   keep-length f (x ∷ xs) = let rest = keep-length f xs in by-test (f x) (λ e. rw e (omega arith)) (λ e. rw e (omega arith))

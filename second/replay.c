@@ -1,0 +1,175 @@
+/* Reads a stream of recorded calls (CASES.md) from standard input, makes them through the exported C functions of the
+ * library to be compared, and compares answer, count and every byte of every lent buffer.
+ *
+ *     cc -O2 -o replay-c replay.c -L FOLDER -l LIBRARY
+ *     second cases --seed 1 --count 1000000 | ./replay-c
+ *
+ * Exit: 0 no mismatch, 1 a mismatch, 2 not a whole stream. */
+
+#include <stdint.h>
+#include <stdio.h>
+#include <stdlib.h>
+#include <string.h>
+
+/* A slice is a pointer and a size_t; a context's length is its number of counters. */
+uint32_t sqimrutta_start(uint8_t *image, size_t image_len, uint8_t number, const uint8_t *table, size_t table_len);
+uint32_t sqimrutta_read(const uint8_t *image, size_t image_len, uint8_t job, uint16_t point, uint8_t *out, size_t out_len);
+uint32_t sqimrutta_write(uint8_t *image, size_t image_len, uint8_t job, uint16_t point, const uint8_t *value,
+                         size_t value_len, const uint32_t *context, size_t context_len, uint8_t *out, size_t out_len);
+uint32_t sqimrutta_delete(uint8_t *image, size_t image_len, uint8_t job, uint16_t point, const uint32_t *context,
+                          size_t context_len, uint8_t *out, size_t out_len);
+uint32_t sqimrutta_take_in(uint8_t *image, size_t image_len, const uint8_t *message, size_t message_len);
+uint32_t sqimrutta_ask(const uint8_t *image, size_t image_len, uint8_t to, uint8_t *out, size_t out_len);
+uint32_t sqimrutta_reply(const uint8_t *image, size_t image_len, const uint8_t *ask, size_t ask_len, uint8_t *out,
+                         size_t out_len, uint32_t *count);
+uint32_t sqimrutta_repair(uint8_t *image, size_t image_len, const uint8_t *reply, size_t reply_len);
+uint32_t sqimrutta_strip_pass(uint8_t *image, size_t image_len, uint32_t *count);
+
+enum { SLOTS = 64, SLOT_BYTES = 65536, NO_SLOT = 255 };
+
+static uint8_t slots[SLOTS][SLOT_BYTES];
+static size_t lengths[SLOTS];
+/* The working buffers: image, input, context, buffer to write to. */
+static uint8_t work[4][SLOT_BYTES];
+static uint32_t counters[SLOT_BYTES / 4];
+static char label[SLOT_BYTES + 1];
+static uint64_t calls;
+
+static void broken(const char *what) {
+    fprintf(stderr, "not a whole stream: %s\n", what);
+    exit(2);
+}
+
+static void take(void *bytes, size_t length) {
+    if (length > 0 && fread(bytes, 1, length, stdin) != length)
+        broken("it stops early");
+}
+
+static uint32_t number(const uint8_t *bytes, int length) {
+    uint32_t result = 0;
+    for (int i = 0; i < length; i++)
+        result |= (uint32_t)bytes[i] << (8 * i);
+    return result;
+}
+
+/* Any record but a call and the end. */
+static void other(const uint8_t *head) {
+    uint8_t slot = head[1], from = head[2];
+    uint32_t first = number(head + 4, 4), second = number(head + 8, 4);
+    if (slot >= SLOTS || from >= SLOTS || first > SLOT_BYTES || second > SLOT_BYTES)
+        broken("a slot or length out of range");
+    switch (head[0]) {
+    case 16:
+        take(slots[slot], first);
+        lengths[slot] = first;
+        break;
+    case 17:
+        if (first + second > lengths[slot])
+            broken("a patch past the end");
+        take(slots[slot] + first, second);
+        break;
+    case 18:
+        memmove(slots[slot], slots[from], lengths[from]);
+        lengths[slot] = lengths[from];
+        break;
+    case 19:
+        if (first > lengths[slot])
+            memset(slots[slot] + lengths[slot], 0, first - lengths[slot]);
+        lengths[slot] = first;
+        break;
+    case 20:
+        take(label, first);
+        label[first] = 0;
+        break;
+    default:
+        broken("an unknown record");
+    }
+}
+
+static void mismatch(const uint8_t *head, const char *what, unsigned long is, unsigned long must) {
+    printf("call %llu (number %u, about: %s): %s: is %lu, recorded is %lu\n", (unsigned long long)calls, head[0], label,
+           what, is, must);
+    exit(1);
+}
+
+static void call(const uint8_t *head) {
+    size_t length[4] = {0, 0, 0, 0};
+    uint32_t answer = 0, count = 0, due_count = number(head + 12, 4);
+    uint16_t point = (uint16_t)number(head + 8, 2), changes = (uint16_t)number(head + 10, 2);
+    for (int i = 0; i < 4; i++) {
+        uint8_t slot = head[2 + i];
+        if (slot == NO_SLOT)
+            continue;
+        if (slot >= SLOTS)
+            broken("a lent slot out of range");
+        length[i] = lengths[slot];
+        memcpy(work[i], slots[slot], length[i]);
+    }
+    for (size_t i = 0; i < length[2] / 4; i++)
+        counters[i] = number(work[2] + 4 * i, 4);
+    uint8_t *image = work[0], *input = work[1], *out = work[3];
+    switch (head[0]) {
+    case 1: answer = sqimrutta_start(image, length[0], head[6], input, length[1]); break;
+    case 2: answer = sqimrutta_read(image, length[0], head[6], point, out, length[3]); break;
+    case 3:
+        answer = sqimrutta_write(image, length[0], head[6], point, input, length[1], counters, length[2] / 4, out, length[3]);
+        break;
+    case 4: answer = sqimrutta_delete(image, length[0], head[6], point, counters, length[2] / 4, out, length[3]); break;
+    case 5: answer = sqimrutta_take_in(image, length[0], input, length[1]); break;
+    case 6: answer = sqimrutta_ask(image, length[0], head[6], out, length[3]); break;
+    case 7:
+        count = 0xdeadbeef;
+        answer = sqimrutta_reply(image, length[0], input, length[1], out, length[3], &count);
+        break;
+    case 8: answer = sqimrutta_repair(image, length[0], input, length[1]); break;
+    case 9:
+        count = 0xdeadbeef;
+        answer = sqimrutta_strip_pass(image, length[0], &count);
+        break;
+    }
+    for (uint16_t i = 0; i < changes; i++) {
+        uint8_t patch[16];
+        take(patch, 16);
+        if (patch[0] != 17)
+            broken("a call's change");
+        other(patch);
+    }
+    calls++;
+    if (answer != head[1])
+        mismatch(head, "answer", answer, head[1]);
+    if (count != due_count)
+        mismatch(head, "count", count, due_count);
+    static const char *const names[4] = {"byte of the image", "byte of the input", "byte of the context",
+                                         "byte of the buffer written to"};
+    for (int i = 0; i < 4; i++) {
+        if (head[2 + i] == NO_SLOT || memcmp(work[i], slots[head[2 + i]], length[i]) == 0)
+            continue;
+        const uint8_t *must = slots[head[2 + i]];
+        size_t at = 0;
+        while (work[i][at] == must[at])
+            at++;
+        fprintf(stderr, "at byte %zu:\n", at);
+        mismatch(head, names[i], work[i][at], must[at]);
+    }
+}
+
+int main(void) {
+    uint8_t head[16];
+    take(head, 16);
+    if (memcmp(head, "SQIMRUTTA CASES1", 16) != 0)
+        broken("the first 16 bytes");
+    for (;;) {
+        take(head, 16);
+        if (head[0] == 0) {
+            uint64_t recorded = (uint64_t)number(head + 12, 4) << 32 | number(head + 8, 4);
+            if (recorded != calls)
+                broken("the number of calls");
+            printf("%llu calls, no mismatch\n", (unsigned long long)calls);
+            return 0;
+        }
+        if (head[0] <= 9)
+            call(head);
+        else
+            other(head);
+    }
+}
