@@ -117,7 +117,7 @@ pub fn reply(image: &[u8], ask: &[u8], out: &mut [u8]) -> Result<u32, Refusal> {
 
 /// **Repair** with a reply of 1 to 121 whole blocks.
 pub fn repair(image: &mut [u8], reply: &[u8]) -> Result<(), Refusal> {
-    let whole_blocks = !reply.is_empty() && reply.len() % BLOCK == 0 && reply.len() <= LONGEST_REPLY;
+    let whole_blocks = !reply.is_empty() && reply.len().is_multiple_of(BLOCK) && reply.len() <= LONGEST_REPLY;
     lengths(&[image.len() == IMAGE, whole_blocks])?;
     let state = good(image)?;
     let reply = Reply::decode(reply, &state.table)?;

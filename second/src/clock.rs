@@ -21,7 +21,7 @@ impl Clock {
     /// Enters a dot.
     pub fn add(&mut self, dot: Dot) {
         let row = &mut self.0[dot.controller.index()];
-        *row = std::mem::take(row).add(dot.counter);
+        *row = std::mem::take(row).adding(dot.counter);
     }
 
     /// Unites one row with another controller's view of it.

@@ -278,7 +278,8 @@ fn write_call(random: &mut Random, stage: &mut Stage, op: Op, wanted: &Wanted) -
         (call.number, call.point) = bad_point(random, stage);
     }
     if op == Op::Write {
-        let length = if wanted.contains(&ValueTooLong) { *random.pick(&[25, 26, 255, 256, 300]) } else { random.between(0, 24) };
+        let length =
+            if wanted.contains(&ValueTooLong) { *random.pick(&[25, 26, 255, 256, 300]) } else { random.between(0, 24) };
         call.input = scratch(random, length);
     }
     call.context = given.to_vec();
@@ -321,7 +322,8 @@ fn add_clash(random: &mut Random, stage: &mut Stage, object: &mut Object, counte
         }
         _ => {
             // Stored among the others, where the points are full already; listed elsewhere, where not.
-            let elsewhere = stage.state.points.keys().find(|point| **point != stage.point && point.job == stage.job).copied();
+            let elsewhere =
+                stage.state.points.keys().find(|point| **point != stage.point && point.job == stage.job).copied();
             match elsewhere {
                 Some(point) => drop(stage.state.points.get_mut(&point).expect("found").versions.insert(clash, content)),
                 None => {
@@ -408,7 +410,7 @@ fn letter(random: &mut Random, stage: &Stage, op: Op, wanted: &Wanted, by_row: b
         let base = stage.base(stage.a);
         let ahead = Counter(base + random.between(1, 3) as u64);
         letter.clock.0[stage.a.index()] = if letter.sender != stage.a && random.percent(50) {
-            Row::up_to(Counter(base - 5)).add(ahead)
+            Row::up_to(Counter(base - 5)).adding(ahead)
         } else {
             Row::up_to(ahead)
         };

@@ -221,7 +221,15 @@ fn row_above_the_last(random: &mut Random, block: &mut [u8], row: usize) {
 // Flaws of images.
 
 /// The image with one block changed, its check put right.
-fn patched(state: &State, number: usize, change: impl FnOnce(&mut [u8]) -> Option<()>) -> Option<Vec<u8>> {
+fn patched(state: &State, number: usize, change: impl FnOnce(&mut [u8])) -> Option<Vec<u8>> {
+    perhaps_patched(state, number, |block| {
+        change(block);
+        Some(())
+    })
+}
+
+/// The same, where the change may turn out not to be possible.
+fn perhaps_patched(state: &State, number: usize, change: impl FnOnce(&mut [u8]) -> Option<()>) -> Option<Vec<u8>> {
     let mut image = image::encode(state);
     let block = &mut image[number * BLOCK..(number + 1) * BLOCK];
     let before = block.to_vec();
@@ -234,7 +242,15 @@ fn patched(state: &State, number: usize, change: impl FnOnce(&mut [u8]) -> Optio
 }
 
 /// The image of a changed state.
-fn changed(state: &State, change: impl FnOnce(&mut State) -> Option<()>) -> Option<Vec<u8>> {
+fn changed(state: &State, change: impl FnOnce(&mut State)) -> Option<Vec<u8>> {
+    perhaps_changed(state, |state| {
+        change(state);
+        Some(())
+    })
+}
+
+/// The same, where the change may turn out not to be possible.
+fn perhaps_changed(state: &State, change: impl FnOnce(&mut State) -> Option<()>) -> Option<Vec<u8>> {
     let mut other = state.clone();
     change(&mut other)?;
     (other.points.len() <= MOST_POINTS && other != *state).then(|| image::encode(&other))
@@ -325,49 +341,47 @@ pub const IMAGE_CHECKS: &[ImageFlaw] = &[
 pub const IMAGE_FORM: &[ImageFlaw] = &[
     ("any block's kind, format, position", |random, state| {
         let flaw = random.pick(ANY_BLOCK).1;
-        patched(state, used_block(random, state), |block| flaw(random, block))
+        perhaps_patched(state, used_block(random, state), |block| flaw(random, block))
     }),
     ("a stored point's block", |random, state| {
         let flaw = random.pick(POINT_BLOCK).1;
-        patched(state, record_block(random, state)?, |block| flaw(random, block))
+        perhaps_patched(state, record_block(random, state)?, |block| flaw(random, block))
     }),
     ("a stored point's sender", |random, state| {
-        patched(state, record_block(random, state)?, |block| STORED_SENDER[0].1(random, block))
+        perhaps_patched(state, record_block(random, state)?, |block| STORED_SENDER[0].1(random, block))
     }),
     ("own number", |random, state| {
         patched(state, 0, |block| {
             block[4] = *random.pick(&[0, 9, 255]);
-            Some(())
         })
     }),
     ("unused byte of the head", |random, state| {
         let at = some(random, (5..8).chain(368..508))?;
-        patched(state, 0, |block| Some(other_byte(random, block, at)))
+        patched(state, 0, |block| other_byte(random, block, at))
     }),
     ("bit 0 of a row", |random, state| {
         let peers = Controller::all().filter(|&n| n != state.own && state.is_peer(n));
         let n = some(random, peers.filter(|&n| state.clock.row(n).base() < Counter::LAST))?;
         patched(state, 0, |block| {
             block[16 + 12 * n.index() + 4] |= 1;
-            Some(())
         })
     }),
     ("row above the last counter", |random, state| {
         let n = other_peer(random, state)?;
-        patched(state, 0, |block| Some(row_above_the_last(random, block, 16 + 12 * n.index())))
+        patched(state, 0, |block| row_above_the_last(random, block, 16 + 12 * n.index()))
     }),
     ("unused byte of a list", |random, state| {
         let at = some(random, (6..8).chain(488..508))?;
-        patched(state, *random.pick(&[1, 2]), |block| Some(other_byte(random, block, at)))
+        patched(state, *random.pick(&[1, 2]), |block| other_byte(random, block, at))
     }),
     ("entry past the count", |random, state| {
         let (number, length) = list_block(random, state, 0)?;
         let at = 8 + 8 * some(random, length..MOST_LISTED)? + random.below(8);
-        patched(state, number, |block| Some(other_byte(random, block, at)))
+        patched(state, number, |block| other_byte(random, block, at))
     }),
     ("61 listed dots", |random, state| {
         let (number, length) = list_block(random, state, 1)?;
-        patched(state, number, |block| {
+        perhaps_patched(state, number, |block| {
             // Where the list is full, the 61st entry follows in order.
             if length == MOST_LISTED {
                 let last: Vec<u8> = block[8 + 59 * 8..8 + 60 * 8].to_vec();
@@ -380,46 +394,47 @@ pub const IMAGE_FORM: &[ImageFlaw] = &[
     }),
     ("one listed dot uncounted", |random, state| {
         let (number, length) = list_block(random, state, 1)?;
-        patched(state, number, |block| Some(put_u16(block, 4, length as u16 - 1)))
+        patched(state, number, |block| put_u16(block, 4, length as u16 - 1))
     }),
     ("one listed dot too many counted", |random, state| {
         let (number, length) = list_block(random, state, 0)?;
-        patched(state, number, |block| (length < MOST_LISTED).then(|| put_u16(block, 4, length as u16 + 1)))
+        perhaps_patched(state, number, |block| (length < MOST_LISTED).then(|| put_u16(block, 4, length as u16 + 1)))
     }),
     ("listed dots out of order", |random, state| {
         let (number, length) = list_block(random, state, 2)?;
         let at = 8 + 8 * random.between(1, length - 1);
-        patched(state, number, |block| {
+        perhaps_patched(state, number, |block| {
             let (first, second) = block[at - 8..].split_at_mut(8);
-            Some(first.swap_with_slice(&mut second[..8]))
+            first.swap_with_slice(&mut second[..8]);
+            Some(())
         })
     }),
     ("a dot listed twice", |random, state| {
         let (number, length) = list_block(random, state, 2)?;
         let at = 8 + 8 * random.between(1, length - 1);
-        patched(state, number, |block| Some(block.copy_within(at - 8..at, at)))
+        patched(state, number, |block| block.copy_within(at - 8..at, at))
     }),
     ("listed counter 0", |random, state| {
         let (number, _) = list_block(random, state, 1)?;
-        patched(state, number, |block| Some(put_u32(block, 12, 0)))
+        patched(state, number, |block| put_u32(block, 12, 0))
     }),
     ("listed controller 0", |random, state| {
         let (number, _) = list_block(random, state, 1)?;
-        patched(state, number, |block| Some(block[8] = 0))
+        patched(state, number, |block| block[8] = 0)
     }),
     ("listed controller over 8", |random, state| {
         let (number, length) = list_block(random, state, 1)?;
-        patched(state, number, |block| Some(block[8 * length] = *random.pick(&[9, 255])))
+        patched(state, number, |block| block[8 * length] = *random.pick(&[9, 255]))
     }),
     ("listed job over 7", |random, state| {
         let (number, length) = list_block(random, state, 1)?;
         let at = 8 + 8 * random.below(length) + 1;
-        patched(state, number, |block| Some(block[at] = *random.pick(&[8, 255])))
+        patched(state, number, |block| block[at] = *random.pick(&[8, 255]))
     }),
     ("listed point 0", |random, state| {
         let (number, length) = list_block(random, state, 1)?;
         let at = 8 + 8 * random.below(length) + 2;
-        patched(state, number, |block| Some(put_u16(block, at, 0)))
+        patched(state, number, |block| put_u16(block, at, 0))
     }),
     ("points out of order", |random, state| {
         let second = some(random, 4..3 + state.points.len())?;
@@ -436,7 +451,7 @@ pub const IMAGE_FORM: &[ImageFlaw] = &[
         let keys: Vec<Point> = state.points.keys().copied().collect();
         let neighbours = (1..keys.len()).filter(|&second| keys[second - 1].job == keys[second].job);
         let second = some(random, neighbours)?;
-        patched(state, 3 + second, |block| Some(put_u16(block, 6, keys[second - 1].number.number())))
+        patched(state, 3 + second, |block| put_u16(block, 6, keys[second - 1].number.number()))
     }),
     ("a block of zeros before a point", |random, state| {
         let last = 2 + state.points.len();
@@ -456,11 +471,11 @@ pub const IMAGE_FORM: &[ImageFlaw] = &[
     ("a byte in a block of zeros", |random, state| {
         let number = some(random, 3 + state.points.len()..image::BLOCKS)?;
         let at = random.below(508);
-        patched(state, number, |block| Some(other_byte(random, block, at)))
+        patched(state, number, |block| other_byte(random, block, at))
     }),
     ("a list's block of zeros", |random, state| {
         let number = *random.pick(&[0, 1, 2]);
-        patched(state, number, |block| Some(block.fill(0)))
+        patched(state, number, |block| block.fill(0))
     }),
 ];
 
@@ -469,43 +484,49 @@ pub const IMAGE_MEANING: &[ImageFlaw] = &[
     ("own row with bits", |random, state| {
         let counter = Counter(state.own_base().0 + random.between(2, 64) as u64);
         let own = state.own.index();
-        changed(state, |state| (counter <= Counter::LAST).then(|| state.clock.0[own] = Row::up_to(state.own_base()).add(counter)))
+        perhaps_changed(state, |state| {
+            (counter <= Counter::LAST).then(|| state.clock.0[own] = Row::up_to(state.own_base()).adding(counter))
+        })
     }),
     ("row of a non-peer", |random, state| {
         let n = non_peer(random, state)?;
         let row = if random.percent(50) { Row::up_to(Counter(1)) } else { Row::from_bits(Counter(0), 2) };
-        changed(state, |state| Some(state.clock.0[n.index()] = row))
+        changed(state, |state| state.clock.0[n.index()] = row)
     }),
     ("watermark of a non-peer m", |random, state| {
         let (m, n) = (non_peer(random, state)?, other_peer(random, state)?);
-        changed(state, |state| Some(state.watermark[m.index()][n.index()] = Counter(1)))
+        changed(state, |state| state.watermark[m.index()][n.index()] = Counter(1))
     }),
     ("watermark of a non-peer n", |random, state| {
         let (m, n) = (other_peer(random, state)?, non_peer(random, state)?);
-        changed(state, |state| Some(state.watermark[m.index()][n.index()] = Counter(1)))
+        changed(state, |state| state.watermark[m.index()][n.index()] = Counter(1))
     }),
     ("own watermark row above own rows", |random, state| {
         let n = other_peer(random, state)?;
         let above = state.clock.row(n).base().next();
-        changed(state, |state| (above <= Counter::LAST).then(|| state.watermark[state.own.index()][n.index()] = above))
+        perhaps_changed(state, |state| {
+            (above <= Counter::LAST).then(|| state.watermark[state.own.index()][n.index()] = above)
+        })
     }),
     ("own column of the watermark above the own base", |random, state| {
         let m = if random.percent(90) { other_peer(random, state)? } else { state.own };
         let above = state.own_base().next();
-        changed(state, |state| (above <= Counter::LAST).then(|| state.watermark[m.index()][state.own.index()] = above))
+        perhaps_changed(state, |state| {
+            (above <= Counter::LAST).then(|| state.watermark[m.index()][state.own.index()] = above)
+        })
     }),
     ("listed dot not in the clock", |random, state| {
         let job = some(random, held_jobs(&state.table, state.own))?;
         let n = some(random, holders(&state.table, job))?;
         let (dot, point) = (unseen(random, state, n)?, unstored(random, state, job)?);
-        changed(state, |state| {
+        perhaps_changed(state, |state| {
             let list = list_of(state, dot);
             (list.len() < MOST_LISTED).then(|| list.insert(dot, point)).map(|_| ())
         })
     }),
     ("own dot in the foreign list", |random, state| {
         let dot = some(random, state.own_dots.keys().copied())?;
-        changed(state, |state| {
+        perhaps_changed(state, |state| {
             let point = state.own_dots.remove(&dot)?;
             state.foreign_dots.insert(dot, point);
             (state.foreign_dots.len() <= MOST_LISTED).then_some(())
@@ -513,7 +534,7 @@ pub const IMAGE_MEANING: &[ImageFlaw] = &[
     }),
     ("foreign dot in the own list", |random, state| {
         let dot = some(random, state.foreign_dots.keys().copied())?;
-        changed(state, |state| {
+        perhaps_changed(state, |state| {
             let point = state.foreign_dots.remove(&dot)?;
             state.own_dots.insert(dot, point);
             (state.own_dots.len() <= MOST_LISTED).then_some(())
@@ -525,19 +546,19 @@ pub const IMAGE_MEANING: &[ImageFlaw] = &[
         // Where it can be, a job that the dot's controller does hold.
         let (held, other): (Vec<Job>, Vec<Job>) = jobs.partition(|&job| state.table.holds(dot.controller, job));
         let job = some(random, if held.is_empty() { other } else { held })?;
-        changed(state, |state| list_of(state, dot).insert(dot, Point { job, ..point }).map(|_| ()))
+        perhaps_changed(state, |state| list_of(state, dot).insert(dot, Point { job, ..point }).map(|_| ()))
     }),
     ("listed dot of a non-holder", |random, state| {
         let (dot, point) = some(random, state.listed().filter(|(dot, _)| !in_a_record(state, *dot)))?;
         let ours = held_jobs(&state.table, state.own);
         let job = some(random, ours.into_iter().filter(|&job| !state.table.holds(dot.controller, job)))?;
-        changed(state, |state| list_of(state, dot).insert(dot, Point { job, ..point }).map(|_| ()))
+        perhaps_changed(state, |state| list_of(state, dot).insert(dot, Point { job, ..point }).map(|_| ()))
     }),
     ("dot listed for another point than the record that holds it", |random, state| {
         let point = record(random, state)?;
         let dot = some(random, state.points[&point].versions.keys().copied())?;
         let other = unstored(random, state, point.job)?;
-        changed(state, |state| {
+        perhaps_changed(state, |state| {
             let list = list_of(state, dot);
             list.insert(dot, other);
             (list.len() <= MOST_LISTED).then_some(())
@@ -551,13 +572,15 @@ pub const IMAGE_MEANING: &[ImageFlaw] = &[
         object.context.raise(n, Counter(random.between(1, 9) as u64));
         changed(state, |state| {
             state.points.insert(point, object);
-            Some(())
         })
     }),
     ("context entry of a non-holder", |random, state| {
         let point = record(random, state)?;
         let n = some(random, Controller::all().filter(|&n| !state.table.holds(n, point.job)))?;
-        changed(state, |state| Some(state.points.get_mut(&point)?.context.raise(n, Counter(1))))
+        perhaps_changed(state, |state| {
+            state.points.get_mut(&point)?.context.raise(n, Counter(1));
+            Some(())
+        })
     }),
     ("version of a non-holder", |random, state| {
         let point = record(random, state)?;
@@ -568,7 +591,7 @@ pub const IMAGE_MEANING: &[ImageFlaw] = &[
             return None;
         }
         let with_context = random.percent(50);
-        changed(state, |state| {
+        perhaps_changed(state, |state| {
             let object = state.points.get_mut(&point)?;
             object.versions.insert(dot, value(1));
             if with_context {
@@ -583,7 +606,7 @@ pub const IMAGE_MEANING: &[ImageFlaw] = &[
             object.versions.keys().filter(beyond).map(|dot| (*point, *dot))
         });
         let (point, dot) = some(random, uncoverable)?;
-        changed(state, |state| {
+        perhaps_changed(state, |state| {
             state.points.get_mut(&point)?.context.0[dot.controller.index()] = Counter(dot.counter.0 - 1);
             Some(())
         })
@@ -593,7 +616,7 @@ pub const IMAGE_MEANING: &[ImageFlaw] = &[
         let others = holders(&state.table, point.job).into_iter().filter(|&n| n != state.own);
         let n = some(random, others)?;
         let dot = unseen(random, state, n)?;
-        changed(state, |state| {
+        perhaps_changed(state, |state| {
             let object = state.points.get_mut(&point)?;
             object.versions.insert(dot, value(2));
             object.context.raise(dot.controller, dot.counter);
@@ -604,7 +627,7 @@ pub const IMAGE_MEANING: &[ImageFlaw] = &[
         let point = record(random, state)?;
         let dot = Dot { controller: state.own, counter: state.own_base().next() };
         let with_context = random.percent(50);
-        changed(state, |state| {
+        perhaps_changed(state, |state| {
             let object = state.points.get_mut(&point)?;
             object.versions.insert(dot, value(3));
             if with_context {
@@ -618,7 +641,7 @@ pub const IMAGE_MEANING: &[ImageFlaw] = &[
         let dot = some(random, state.points[&point].versions.keys().copied())?;
         let others = state.points.keys().filter(|other| other.job == point.job && **other != point);
         let other = some(random, others.copied())?;
-        changed(state, |state| {
+        perhaps_changed(state, |state| {
             let content = state.points[&point].versions[&dot];
             let object = state.points.get_mut(&other)?;
             object.versions.insert(dot, content);
@@ -631,7 +654,7 @@ pub const IMAGE_MEANING: &[ImageFlaw] = &[
     ("own context entry above the own base", |random, state| {
         let point = record(random, state)?;
         let above = state.own_base().next();
-        changed(state, |state| {
+        perhaps_changed(state, |state| {
             state.points.get_mut(&point)?.context.raise(state.own, above);
             (above <= Counter::LAST).then_some(())
         })
@@ -648,7 +671,6 @@ pub const IMAGE_MEANING: &[ImageFlaw] = &[
                 object.versions.insert(seen, Content::Deleted);
             }
             state.points.insert(point, object);
-            Some(())
         })
     }),
 ];
@@ -684,7 +706,13 @@ pub fn flawed_block(random: &mut Random, lists: &[&[BlockFlaw]], block: &mut [u8
 }
 
 /// Changes an object of a message into one that refusal 4 meets: a non-holder named, or a version not covered.
-fn flawed_object(random: &mut Random, table: &Table, point: Point, object: &mut Object, rows: Option<&crate::clock::Clock>) -> Option<&'static str> {
+fn flawed_object(
+    random: &mut Random,
+    table: &Table,
+    point: Point,
+    object: &mut Object,
+    rows: Option<&crate::clock::Clock>,
+) -> Option<&'static str> {
     let outside = || Controller::all().filter(|&n| !table.holds(n, point.job));
     match random.below(3) {
         0 => {

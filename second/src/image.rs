@@ -112,5 +112,7 @@ fn read_dots(block: &[u8]) -> Option<BTreeMap<Dot, Point>> {
         return None;
     }
     let entries = block[8..].chunks_exact(8).take(count);
-    entries.map(|entry| Some((Dot::new(entry[0], u32_at(entry, 4))?, Point::new(entry[1], u16_at(entry, 2))?))).collect()
+    entries
+        .map(|entry| Some((Dot::new(entry[0], u32_at(entry, 4))?, Point::new(entry[1], u16_at(entry, 2))?)))
+        .collect()
 }

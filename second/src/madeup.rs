@@ -33,7 +33,7 @@ fn some_row(random: &mut Random, own: bool) -> Row {
         0 => 0,
         1 | 2 => random.between(1, 10) as u64,
         3 | 4 => random.between(1, 300) as u64,
-        5 => random.next() % Counter::LAST.0,
+        5 => random.bits() % Counter::LAST.0,
         6 => Counter::LAST.0 - random.below(70) as u64,
         _ => *random.pick(&[Counter::LAST.0, 65535, 65536, 255, 256]),
     };
@@ -42,7 +42,7 @@ fn some_row(random: &mut Random, own: bool) -> Row {
         for _ in 0..*random.pick(&[1, 1, 2, 5, 40]) {
             let counter = Counter(base + if random.percent(15) { REACH } else { random.between(2, 64) as u64 });
             if counter <= Counter::LAST {
-                row = row.add(counter);
+                row = row.adding(counter);
             }
         }
     }
@@ -106,7 +106,7 @@ fn some_context(random: &mut Random, state: &State, job: Job) -> Context {
         let entry = match random.below(12) {
             0 => base,
             1 => base.saturating_sub(random.below(5) as u64),
-            2 if base > 0 => 1 + random.next() % base,
+            2 if base > 0 => 1 + random.bits() % base,
             3 => base + random.between(1, 3) as u64,
             4 => base + random.between(1, 80) as u64,
             5 if random.percent(20) => Counter::LAST.0,
@@ -138,7 +138,7 @@ pub fn good_state(random: &mut Random) -> State {
                 0 => 0,
                 1 => most.0,
                 2 => state.clock.row(n).base().0.saturating_sub(random.below(70) as u64),
-                _ => random.next() % (most.0 + 1),
+                _ => random.bits() % (most.0 + 1),
             };
             state.watermark[m.index()][n.index()] = Counter(entry.min(most.0));
         }
@@ -285,7 +285,7 @@ fn some_letter(random: &mut Random, state: &State) -> Letter {
                 Row::up_to(Counter((base + random.between(1, 5) as u64).min(Counter::LAST.0)))
             }
             3 => Row::up_to(Counter(base.saturating_sub(random.below(60) as u64))),
-            4 if n == state.own && n != sender && base >= 4 => Row::up_to(Counter(base - 4)).add(Counter(base)),
+            4 if n == state.own && n != sender && base >= 4 => Row::up_to(Counter(base - 4)).adding(Counter(base)),
             _ if n == sender => Row::up_to(Counter(base)),
             _ => std::mem::take(row),
         };

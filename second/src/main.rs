@@ -4,7 +4,7 @@ use second::cases::cases;
 use second::crew::Shape;
 use second::print::print;
 use second::simulate::{simulate, Settings};
-use second::store::Second;
+use second::store::{Looked, Second, Store};
 use second::stream::{replay, Answers, ReplayError};
 use std::io::{self, BufReader, BufWriter, Read, Write};
 use std::process::ExitCode;
@@ -18,8 +18,9 @@ usage:
   second cases [--seed N] [--count N] [--stats]
       writes a stream of recorded calls to standard output (CASES.md describes it);
       --stats tells on standard error how many calls of each kind gave which answer
-  second replay [--stats] [FILE]
-      reads such a stream from the file, or from standard input, makes its calls and compares
+  second replay [--stats] [--look] [FILE]
+      reads such a stream from the file, or from standard input, makes its calls and compares;
+      --look also looks whether each accepted call leaves a good image
   second print
       reads an image from standard input and prints it
   second refusals
@@ -77,13 +78,22 @@ struct Options {
     longest: usize,
     shape: Option<Shape>,
     stats: bool,
+    look: bool,
     file: Option<String>,
 }
 
 impl Options {
     fn read(mut arguments: impl Iterator<Item = String>) -> Result<Options, String> {
-        let mut options =
-            Options { seed: 1, steps: 100_000, count: 100_000, longest: 3000, shape: None, stats: false, file: None };
+        let mut options = Options {
+            seed: 1,
+            steps: 100_000,
+            count: 100_000,
+            longest: 3000,
+            shape: None,
+            stats: false,
+            look: false,
+            file: None,
+        };
         while let Some(argument) = arguments.next() {
             let mut value = || arguments.next().ok_or(format!("{argument} needs a value"));
             match argument.as_str() {
@@ -96,6 +106,7 @@ impl Options {
                     options.shape = Some(Shape::named(&name).ok_or(format!("no crew is called {name}"))?);
                 }
                 "--stats" => options.stats = true,
+                "--look" => options.look = true,
                 _ if argument.starts_with("--") => return Err(format!("{argument} is not known")),
                 _ => options.file = Some(argument),
             }
@@ -113,7 +124,7 @@ fn run_simulate(options: &Options) -> Result<(), Failure> {
     let settings =
         Settings { seed: options.seed, steps: options.steps, shape: options.shape, longest: options.longest };
     let report = simulate(&Second, &settings).map_err(|violation| Failure::Found(violation.to_string()))?;
-    write!(io::stdout(), "{report}no violation\n")?;
+    writeln!(io::stdout(), "{report}no violation")?;
     Ok(())
 }
 
@@ -131,7 +142,8 @@ fn run_replay(options: &Options) -> Result<(), Failure> {
         Some(file) => Box::new(std::fs::File::open(file)?),
         None => Box::new(io::stdin()),
     };
-    let replayed = replay(&Second, BufReader::with_capacity(1 << 20, stream)).map_err(|error| match error {
+    let store: &dyn Store = if options.look { &Looked } else { &Second };
+    let replayed = replay(store, BufReader::with_capacity(1 << 20, stream)).map_err(|error| match error {
         ReplayError::Stream(_) => Failure::Usage(error.to_string()),
         ReplayError::Mismatch(_) => Failure::Found(error.to_string()),
     })?;
@@ -143,8 +155,7 @@ fn run_replay(options: &Options) -> Result<(), Failure> {
 }
 
 fn table(answers: &Answers) -> String {
-    let line = |((op, answer), times): (&(second::call::Op, u32), &u64)| format!("{:10} answer {answer:2} times {times}\n", op.name());
-    answers.iter().map(line).collect()
+    answers.iter().map(|((op, answer), times)| format!("{:10} answer {answer:2} times {times}\n", op.name())).collect()
 }
 
 fn run_print() -> Result<(), Failure> {

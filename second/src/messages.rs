@@ -83,9 +83,8 @@ impl Letter {
         };
         let crew_rows_only =
             Controller::all().all(|n| table.in_some_job(n) || letter.clock.row(n).highest() == Counter::NONE);
-        let well_formed = crew_rows_only
-            && !letter.clock.row(letter.sender).has_gap()
-            && letter.encode(kind, points) == block;
+        let well_formed =
+            crew_rows_only && !letter.clock.row(letter.sender).has_gap() && letter.encode(kind, points) == block;
         well_formed.then_some(letter)
     }
 }

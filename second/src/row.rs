@@ -53,7 +53,7 @@ impl Row {
     }
 
     /// The row with one counter more.
-    pub fn add(mut self, counter: Counter) -> Row {
+    pub fn adding(mut self, counter: Counter) -> Row {
         if counter > self.base {
             self.beyond.insert(counter);
             self = self.settled();
@@ -97,7 +97,7 @@ mod tests {
 
     #[test]
     fn the_base_moves_over_the_run_that_follows_it() {
-        let row = Row::from_bits(Counter(3), 0b0110).add(Counter(4));
+        let row = Row::from_bits(Counter(3), 0b0110).adding(Counter(4));
         assert_eq!((row.base(), row.bits()), (Counter(6), 0));
     }
 
@@ -110,8 +110,8 @@ mod tests {
     #[test]
     fn a_seen_counter_changes_nothing() {
         let row = Row::from_bits(Counter(3), 2);
-        assert_eq!(row.clone().add(Counter(3)), row);
-        assert_eq!(row.clone().add(Counter(5)), row);
+        assert_eq!(row.clone().adding(Counter(3)), row);
+        assert_eq!(row.clone().adding(Counter(5)), row);
         assert!(!row.contains(Counter(0)));
         assert!(row.contains(Counter(1)) && row.contains(Counter(3)) && row.contains(Counter(5)));
         assert!(!row.contains(Counter(4)) && !row.contains(Counter(6)));
@@ -128,17 +128,17 @@ mod tests {
     #[test]
     fn the_order_of_adding_does_not_matter() {
         let start = Row::up_to(Counter(3));
-        let up = start.clone().add(Counter(4)).add(Counter(68));
-        let down = start.clone().add(Counter(68)).add(Counter(4));
+        let up = start.clone().adding(Counter(4)).adding(Counter(68));
+        let down = start.clone().adding(Counter(68)).adding(Counter(4));
         assert_eq!(up, down);
         assert!(up.fits());
-        assert!(!start.add(Counter(68)).fits());
+        assert!(!start.adding(Counter(68)).fits());
     }
 
     #[test]
     fn the_top_of_the_range() {
-        let row = Row::up_to(Counter(4_294_967_294)).add(Counter::LAST);
+        let row = Row::up_to(Counter(4_294_967_294)).adding(Counter::LAST);
         assert_eq!(row, Row::up_to(Counter::LAST));
-        assert_eq!(row.clone().add(Counter::LAST.next()).base(), Counter(4_294_967_296));
+        assert_eq!(row.clone().adding(Counter::LAST.next()).base(), Counter(4_294_967_296));
     }
 }

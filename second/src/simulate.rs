@@ -107,7 +107,7 @@ pub fn simulate(store: &dyn Store, settings: &Settings) -> Result<Report, Box<Vi
     let mut report = Report::default();
     while report.steps < settings.steps {
         let shape = settings.shape.unwrap_or(Shape::ALL[report.crews as usize % Shape::ALL.len()].1);
-        let seed = random.next();
+        let seed = random.bits();
         report.crews += 1;
         let left = (settings.steps - report.steps).min(settings.longest as u64) as usize;
         let mut run = Run::new(store, shape, seed, &mut report);
@@ -377,7 +377,11 @@ impl<'a> Run<'a> {
         let content = if delete { Content::Deleted } else { Content::Value(Value::new(&bytes).expect("24 at most")) };
         let point = self.points[place];
         let (job, number) = (point.job.number(), point.number.number());
-        self.log.push(format!("{} {} point {point} context {given:?}", if delete { "delete" } else { "write" }, n.number()));
+        self.log.push(format!(
+            "{} {} point {point} context {given:?}",
+            if delete { "delete" } else { "write" },
+            n.number()
+        ));
 
         let before = self.device(n).image.clone();
         let mut image = before.clone();
@@ -397,7 +401,9 @@ impl<'a> Run<'a> {
             let due = match refusal {
                 Refusal::ContextAhead => above && !from_own_reading,
                 Refusal::TooManyVersions => state.stored(point).versions.len() == 8,
-                Refusal::TooManyPoints => !delete && state.points.len() == MOST_POINTS && !state.points.contains_key(&point),
+                Refusal::TooManyPoints => {
+                    !delete && state.points.len() == MOST_POINTS && !state.points.contains_key(&point)
+                }
                 Refusal::OwnListFull => state.own_dots.len() == MOST_LISTED,
                 Refusal::CountersUsedUp => state.own_base() == Counter::LAST,
                 _ => false,
@@ -484,8 +490,7 @@ impl<'a> Run<'a> {
         let point = self.points[place];
         self.log.push(format!("read {} point {point}", n.number()));
         let mut out = vec![0xc3; 512];
-        let answer =
-            self.store.read(&self.device(n).image, point.job.number(), point.number.number(), &mut out);
+        let answer = self.store.read(&self.device(n).image, point.job.number(), point.number.number(), &mut out);
         self.count("read", answer.map(|()| 0));
         if answer.is_err() {
             return Err(format!("read refused: {answer:?}"));
@@ -507,7 +512,11 @@ impl<'a> Run<'a> {
     fn ask_somebody(&mut self, n: Controller) -> Outcome {
         let to = if self.random.percent(90) {
             let others: Vec<u8> = self.table.peers_of(n).filter(|&m| m != n).map(Controller::number).collect();
-            if others.is_empty() { n.number() } else { *self.random.pick(&others) }
+            if others.is_empty() {
+                n.number()
+            } else {
+                *self.random.pick(&others)
+            }
         } else {
             self.random.between(0, 9) as u8
         };

@@ -77,7 +77,8 @@ pub fn reply(state: &State, ask: &Letter) -> Result<Reply, Refusal> {
             && !ask.clock.contains(dot)
             && state.table.holds(ask.sender, point.job)
     };
-    let found: BTreeSet<Point> = state.listed().filter(|(dot, point)| is_sent(*dot, *point)).map(|(_, point)| point).collect();
+    let found: BTreeSet<Point> =
+        state.listed().filter(|(dot, point)| is_sent(*dot, *point)).map(|(_, point)| point).collect();
     Ok(Reply {
         head: Letter { sender: state.own, addressee: ask.sender, clock: state.clock.clone() },
         points: found.into_iter().map(|point| (point, state.stored(point))).collect(),
@@ -125,7 +126,11 @@ pub fn strip_pass(state: &State) -> (State, u32) {
 ///
 /// "11 to 13 are judged on the step's result with no limit applied; 12 counts a point's versions before its record may
 /// go."
-fn store(state: &State, results: BTreeMap<Point, Object>, united: Option<(Controller, &Row)>) -> Result<State, Refusal> {
+fn store(
+    state: &State,
+    results: BTreeMap<Point, Object>,
+    united: Option<(Controller, &Row)>,
+) -> Result<State, Refusal> {
     let mut after = state.clone();
     let new_dots: BTreeMap<Dot, Point> = results
         .iter()
@@ -195,7 +200,8 @@ fn jobs_are_held<'a>(
     sender: Controller,
     mut objects: impl Iterator<Item = (Point, &'a Object)>,
 ) -> Result<(), Refusal> {
-    let held = objects.all(|(point, _)| state.table.holds(state.own, point.job) && state.table.holds(sender, point.job));
+    let held =
+        objects.all(|(point, _)| state.table.holds(state.own, point.job) && state.table.holds(sender, point.job));
     demand(held, Refusal::OutOfRange)
 }
 

@@ -56,3 +56,52 @@ pub trait Store {
 pub struct Second;
 
 impl Store for Second {}
+
+/// This program's calls, with a look at the image after each accepted one: "Every accepted step leaves a good image."
+/// A panic tells of one that does not.
+pub struct Looked;
+
+impl Looked {
+    fn at<T>(image: &[u8], answer: Result<T, Refusal>) -> Result<T, Refusal> {
+        assert!(
+            answer.is_err() || crate::image::decode(image).is_some(),
+            "an accepted step left an image that is not good"
+        );
+        answer
+    }
+}
+
+impl Store for Looked {
+    fn start(&self, image: &mut [u8], number: u8, table: &[u8]) -> Result<(), Refusal> {
+        let answer = calls::start(image, number, table);
+        Looked::at(image, answer)
+    }
+    fn write(
+        &self,
+        image: &mut [u8],
+        job: u8,
+        point: u16,
+        value: &[u8],
+        context: &[u32],
+        out: &mut [u8],
+    ) -> Result<(), Refusal> {
+        let answer = calls::write(image, job, point, value, context, out);
+        Looked::at(image, answer)
+    }
+    fn delete(&self, image: &mut [u8], job: u8, point: u16, context: &[u32], out: &mut [u8]) -> Result<(), Refusal> {
+        let answer = calls::delete(image, job, point, context, out);
+        Looked::at(image, answer)
+    }
+    fn take_in(&self, image: &mut [u8], message: &[u8]) -> Result<(), Refusal> {
+        let answer = calls::take_in(image, message);
+        Looked::at(image, answer)
+    }
+    fn repair(&self, image: &mut [u8], reply: &[u8]) -> Result<(), Refusal> {
+        let answer = calls::repair(image, reply);
+        Looked::at(image, answer)
+    }
+    fn strip_pass(&self, image: &mut [u8]) -> Result<u32, Refusal> {
+        let answer = calls::strip_pass(image);
+        Looked::at(image, answer)
+    }
+}

@@ -36,20 +36,20 @@ fn k1_check() {
 fn k2_adding_4_to_base_3_bits_2() {
     let row = Row::from_bits(Counter(3), 2);
     assert!(row.contains(Counter(5)));
-    let row = row.add(Counter(4));
+    let row = row.adding(Counter(4));
     assert_eq!((row.base(), row.bits()), (Counter(5), 0));
 }
 
 #[test]
 fn k3_adding_67_to_base_3() {
-    let row = Row::from_bits(Counter(3), 0).add(Counter(67));
+    let row = Row::from_bits(Counter(3), 0).adding(Counter(67));
     assert!(row.fits());
     assert_eq!((row.base(), row.bits()), (Counter(3), 1 << 63));
 }
 
 #[test]
 fn k4_adding_68_to_base_3() {
-    assert!(!Row::from_bits(Counter(3), 0).add(Counter(68)).fits());
+    assert!(!Row::from_bits(Counter(3), 0).adding(Counter(68)).fits());
     // The same through the calls: controller 2 has row 1 at base 3 and is sent 1.67, then 1.68.
     let mut state = Handheld::fresh(2, &TABLE).state();
     state.clock.0[0] = Row::up_to(Counter(3));

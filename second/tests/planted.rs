@@ -136,7 +136,15 @@ fn strips_by_the_highest_counter() {
 fn drops_unread_own_versions() {
     struct Faulty;
     impl Store for Faulty {
-        fn write(&self, image: &mut [u8], job: u8, point: u16, value: &[u8], context: &[u32], out: &mut [u8]) -> Result<(), Refusal> {
+        fn write(
+            &self,
+            image: &mut [u8],
+            job: u8,
+            point: u16,
+            value: &[u8],
+            context: &[u32],
+            out: &mut [u8],
+        ) -> Result<(), Refusal> {
             let state = image::decode(image).expect("a good image");
             let mut raised = context.to_vec();
             raised[state.own.index()] = state.own_base().to_u32();
@@ -179,7 +187,14 @@ fn shows_nothing() {
 fn leaves_the_image_untouched() {
     struct Faulty;
     impl Store for Faulty {
-        fn delete(&self, image: &mut [u8], job: u8, point: u16, context: &[u32], out: &mut [u8]) -> Result<(), Refusal> {
+        fn delete(
+            &self,
+            image: &mut [u8],
+            job: u8,
+            point: u16,
+            context: &[u32],
+            out: &mut [u8],
+        ) -> Result<(), Refusal> {
             calls::delete(&mut image.to_vec(), job, point, context, out)
         }
     }

@@ -120,7 +120,7 @@ mod limits {
         let near = (point(0, 2), object(&[(1, 4, value(b"near"))], entry(1, 4)));
         let head = letter(3, 2, &[]);
         let mut two = Handheld::of(&state);
-        assert_eq!(two.clone().repair(&reply(head.clone(), &[far.clone()])), Err(Refusal::RowTooWide));
+        assert_eq!(two.clone().repair(&reply(head.clone(), std::slice::from_ref(&far))), Err(Refusal::RowTooWide));
         two.repair(&reply(head, &[far, near])).unwrap();
         assert_eq!(two.row(1), (4, 1 << 63));
         assert_eq!(two.state().foreign_dots.len(), 2);
@@ -179,7 +179,10 @@ mod limits {
         let mut out = vec![0x77; 61_952 + 5];
         assert_eq!(second::calls::reply(&one.image, &two.ask(1).unwrap(), &mut out), Ok(1));
         assert!(out[1024..].iter().all(|byte| *byte == 0x77));
-        assert_eq!(second::calls::reply(&one.image, &two.ask(1).unwrap(), &mut out[..61_951]), Err(Refusal::WrongLength));
+        assert_eq!(
+            second::calls::reply(&one.image, &two.ask(1).unwrap(), &mut out[..61_951]),
+            Err(Refusal::WrongLength)
+        );
     }
 
     /// "Each point found ... is sent once, as stored", and the reply's blocks, byte by byte where it matters.

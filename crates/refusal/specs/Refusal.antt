@@ -2,6 +2,8 @@
 use Prim.Native.Nat.{ℕ}
 use mathlib.Core.Bool.{Bool, true, false}
 use Rattle.refusal.specs.declared.Refusal.{Refusal}
+use Rattle.refusal.specs.declared.Verdict.{Verdict}
+use Rattle.refusal.specs.declared.Verdict.the-variants.{Accepted, Refused}
 use Rattle.refusal.specs.declared.Refusal.the-variants.{WrongLength, ImageNotGood, WrongCheck, IllFormed, OutOfRange, NotPeer, ValueTooLong, ContextAhead, HistoryLost, DotClash, RowTooFar, TooManyVersions, TooManyPoints, OwnListFull, CountersUsedUp}
 
 -- the numbers of the table
@@ -21,6 +23,11 @@ number TooManyVersions = 12
 number TooManyPoints = 13
 number OwnListFull = 14
 number CountersUsedUp = 15
+
+-- "An accepted call returns 0"
+abbrev pub answer-number : Verdict → ℕ
+answer-number Accepted = 0
+answer-number (Refused r) = number r
 
 -- a step is refused, or it is accepted and gives its result
 pub data Answer (A : Type 0) : Type 0 where

@@ -1,6 +1,6 @@
 // Why a call says no: one constructor for each row of document 01's table, in the table's order.
 ghost use mathlib.Core.Path.{_≡_};
-ghost use Rattle.refusal.specs.Refusal.{number};
+ghost use Rattle.refusal.specs.Refusal.{number, answer-number};
 
 pub enum Refusal {
     // 1: a lent buffer has the wrong length
@@ -56,6 +56,24 @@ impl Refusal {
             Refusal::TooManyPoints => 13,
             Refusal::OwnListFull => 14,
             Refusal::CountersUsedUp => 15,
+        }
+    }
+}
+
+// What a call answers.
+pub enum Verdict {
+    Accepted,
+    Refused(Refusal),
+}
+
+impl Verdict {
+    // "An accepted call returns 0"; a refused one the refusal's number.
+    pub fn number(self) -> u32
+        ensures { λ r. ⌜ r ≡ answer-number self ⌝ }
+    {
+        match self {
+            Verdict::Accepted => 0,
+            Verdict::Refused(r) => r.number(),
         }
     }
 }
