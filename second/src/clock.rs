@@ -4,7 +4,7 @@ use crate::names::{Controller, Dot, EIGHT};
 use crate::row::Row;
 
 /// "**Clock**: a row per controller".
-#[derive(Clone, PartialEq, Eq, Debug, Default)]
+#[derive(Clone, PartialEq, Eq, Debug, Default, Hash)]
 pub struct Clock(pub [Row; EIGHT]);
 
 impl Clock {

@@ -5,7 +5,7 @@ use crate::names::{Controller, Counter, Dot, Job, EIGHT};
 use crate::table::Table;
 
 /// "a context, one counter per controller, 0 for none".
-#[derive(Clone, Copy, PartialEq, Eq, Debug, Default)]
+#[derive(Clone, Copy, PartialEq, Eq, Debug, Default, Hash)]
 pub struct Context(pub [Counter; EIGHT]);
 
 impl Context {

@@ -10,6 +10,7 @@ pub mod clock;
 pub mod compose;
 pub mod context;
 pub mod crew;
+pub mod explore;
 pub mod flaws;
 pub mod image;
 pub mod madeup;

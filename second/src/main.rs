@@ -2,6 +2,7 @@
 
 use second::cases::cases;
 use second::crew::Shape;
+use second::explore::{explore, Tiny};
 use second::print::print;
 use second::simulate::{simulate, Settings};
 use second::store::{Looked, Second, Store};
@@ -15,6 +16,8 @@ usage:
       runs random crews and holds every reading against the demand;
       SHAPE is one of solo pair trio chain eight few overlap many top any (default: all in turn);
       a crew lives for at most --longest steps (default 3000)
+  second explore [--crew TINY] [--depth N]
+      takes every run of N steps (default 5) of a tiny crew: pair, trio or chain (default: each of them)
   second cases [--seed N] [--count N] [--stats]
       writes a stream of recorded calls to standard output (CASES.md describes it);
       --stats tells on standard error how many calls of each kind gave which answer
@@ -51,6 +54,7 @@ fn main() -> ExitCode {
     };
     let outcome = match command.as_str() {
         "simulate" => run_simulate(&options),
+        "explore" => run_explore(&options),
         "cases" => run_cases(&options),
         "replay" => run_replay(&options),
         "print" => run_print(),
@@ -76,7 +80,8 @@ struct Options {
     steps: u64,
     count: u64,
     longest: usize,
-    shape: Option<Shape>,
+    depth: u32,
+    crew: Option<String>,
     stats: bool,
     look: bool,
     file: Option<String>,
@@ -89,7 +94,8 @@ impl Options {
             steps: 100_000,
             count: 100_000,
             longest: 3000,
-            shape: None,
+            depth: 5,
+            crew: None,
             stats: false,
             look: false,
             file: None,
@@ -101,10 +107,8 @@ impl Options {
                 "--steps" => options.steps = number(&value()?)?,
                 "--count" => options.count = number(&value()?)?,
                 "--longest" => options.longest = number(&value()?)?.max(1) as usize,
-                "--crew" => {
-                    let name = value()?;
-                    options.shape = Some(Shape::named(&name).ok_or(format!("no crew is called {name}"))?);
-                }
+                "--depth" => options.depth = number(&value()?)?.min(12) as u32,
+                "--crew" => options.crew = Some(value()?),
                 "--stats" => options.stats = true,
                 "--look" => options.look = true,
                 _ if argument.starts_with("--") => return Err(format!("{argument} is not known")),
@@ -121,10 +125,31 @@ fn number(text: &str) -> Result<u64, String> {
 }
 
 fn run_simulate(options: &Options) -> Result<(), Failure> {
-    let settings =
-        Settings { seed: options.seed, steps: options.steps, shape: options.shape, longest: options.longest };
+    let shape = match &options.crew {
+        Some(name) => Some(Shape::named(name).ok_or_else(|| no_such_crew(name))?),
+        None => None,
+    };
+    let settings = Settings { seed: options.seed, steps: options.steps, shape, longest: options.longest };
     let report = simulate(&Second, &settings).map_err(|violation| Failure::Found(violation.to_string()))?;
     writeln!(io::stdout(), "{report}no violation")?;
+    Ok(())
+}
+
+fn no_such_crew(name: &str) -> Failure {
+    Failure::Usage(format!("no crew is called {name}\n{USAGE}"))
+}
+
+fn run_explore(options: &Options) -> Result<(), Failure> {
+    let names = match &options.crew {
+        Some(name) => vec![name.as_str()],
+        None => vec!["pair", "trio", "chain"],
+    };
+    for name in names {
+        let tiny = Tiny::named(name).ok_or_else(|| no_such_crew(name))?;
+        let explored = explore(&tiny, options.depth).map_err(Failure::Found)?;
+        let (steps, situations) = (explored.steps, explored.situations);
+        println!("{name} depth {} steps {steps} situations {situations} no violation", options.depth);
+    }
     Ok(())
 }
 

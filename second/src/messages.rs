@@ -13,7 +13,7 @@ use crate::table::Table;
 use std::collections::{BTreeMap, BTreeSet};
 
 /// Kind 4: a point as its writer had it, filled, right after the write or deletion.
-#[derive(Clone, PartialEq, Eq, Debug)]
+#[derive(Clone, PartialEq, Eq, Debug, Hash)]
 pub struct Outgoing {
     /// The writer.
     pub sender: Controller,
@@ -45,7 +45,7 @@ impl Outgoing {
 }
 
 /// "**Kind 5, ask; 6, reply head**: 4 sender; 5 addressee; 6-7 number of points (0 in kind 5); 8-103 clock rows."
-#[derive(Clone, PartialEq, Eq, Debug)]
+#[derive(Clone, PartialEq, Eq, Debug, Hash)]
 pub struct Letter {
     /// The sender.
     pub sender: Controller,
@@ -90,7 +90,7 @@ impl Letter {
 }
 
 /// "A reply is its head, then kind 3 blocks ascending by job and point, none twice."
-#[derive(Clone, PartialEq, Eq, Debug)]
+#[derive(Clone, PartialEq, Eq, Debug, Hash)]
 pub struct Reply {
     /// Sender, addressee and the sender's clock.
     pub head: Letter,

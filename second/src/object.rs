@@ -10,7 +10,7 @@ use std::collections::BTreeMap;
 pub const LONGEST_VALUE: usize = 24;
 
 /// A value: up to 24 bytes.
-#[derive(Clone, Copy, PartialEq, Eq, Debug)]
+#[derive(Clone, Copy, PartialEq, Eq, Debug, Hash)]
 pub struct Value {
     length: u8,
     bytes: [u8; LONGEST_VALUE],
@@ -31,7 +31,7 @@ impl Value {
 }
 
 /// What a version says: "a value or \"deleted\"".
-#[derive(Clone, Copy, PartialEq, Eq, Debug)]
+#[derive(Clone, Copy, PartialEq, Eq, Debug, Hash)]
 pub enum Content {
     /// The point has this value.
     Value(Value),
@@ -40,7 +40,7 @@ pub enum Content {
 }
 
 /// The versions of a point, by dot, and the context.
-#[derive(Clone, PartialEq, Eq, Debug, Default)]
+#[derive(Clone, PartialEq, Eq, Debug, Default, Hash)]
 pub struct Object {
     /// The versions.
     pub versions: BTreeMap<Dot, Content>,

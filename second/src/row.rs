@@ -8,7 +8,7 @@ pub const REACH: u64 = 64;
 
 /// A base (1..base all seen) and the set of seen counters beyond the first gap. The set has no width here: a step
 /// first makes the row it would need, and then asks whether that row [`fits`](Row::fits).
-#[derive(Clone, PartialEq, Eq, Debug, Default)]
+#[derive(Clone, PartialEq, Eq, Debug, Default, Hash)]
 pub struct Row {
     base: Counter,
     beyond: BTreeSet<Counter>,

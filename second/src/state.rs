@@ -17,7 +17,7 @@ pub const MOST_LISTED: usize = 60;
 pub type Watermark = [[Counter; EIGHT]; EIGHT];
 
 /// "What a controller remembers".
-#[derive(Clone, PartialEq, Eq, Debug)]
+#[derive(Clone, PartialEq, Eq, Debug, Hash)]
 pub struct State {
     /// Our own number.
     pub own: Controller,

@@ -3,7 +3,7 @@
 use crate::names::{Controller, Job, EIGHT};
 
 /// "The *crew table* has one byte per job; bit n-1 says that controller n holds the job."
-#[derive(Clone, Copy, PartialEq, Eq, Debug, Default)]
+#[derive(Clone, Copy, PartialEq, Eq, Debug, Default, Hash)]
 pub struct Table(pub [u8; EIGHT]);
 
 impl Table {

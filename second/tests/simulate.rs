@@ -1,6 +1,7 @@
 //! The simulator with a fixed seed, over all shapes of crews; and that its crews really get into the corners.
 
 use second::crew::Shape;
+use second::explore::{explore, Tiny};
 use second::simulate::{simulate, Report, Settings};
 use second::store::Second;
 
@@ -45,4 +46,13 @@ fn each_shape_with_a_fixed_seed() {
 fn a_seed_gives_one_run() {
     let twice = [run(3, 5_000, None), run(3, 5_000, None)].map(|report| report.to_string());
     assert_eq!(twice[0], twice[1]);
+}
+
+/// Every run of four steps of the tiny crews; longer ones by hand.
+#[test]
+fn all_short_runs_of_tiny_crews() {
+    for name in ["pair", "trio", "chain"] {
+        let explored = explore(&Tiny::named(name).unwrap(), 4).unwrap_or_else(|violation| panic!("{violation}"));
+        assert!(explored.steps > 20_000, "{name} {explored:?}");
+    }
 }

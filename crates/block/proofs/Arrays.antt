@@ -1,0 +1,60 @@
+-- Runs of equal parts: what was written one after the other is read back one by one. Assumes nothing.
+use Prim.Native.Nat.{ℕ, zero, suc, _+_, _*_, _-_, _≤_, _<_}
+use mathlib.Core.Path.{_≡_, refl, ap, ap₂, sym, _∙_, subst}
+use mathlib.Core.List.{List, [], _∷_, _++_, append-assoc, List·Memᴰ, List·Memᴰ·head, List·Memᴰ·tail}
+use native.Mathlib.Nat.{mul-suc, mul-zero, le-of-suc-le-suc}
+use native.Mathlib.Omega.{arith}
+use lib.ListN.{length, take, drop, getD, length-append}
+use Rattle.numbers.specs.Words.{concat-map}
+use Rattle.block.specs.Fields.{cut, upto}
+use Rattle.block.proofs.Parts.{cut-past, cut-first}
+
+module _ {A : Type 0} where
+  pub upto-length : (n : ℕ) (f : ℕ → A) → length (upto n f) ≡ n
+  upto-length zero f = refl
+  upto-length (suc n) f = ap suc (upto-length n (λ i. f (suc i)))
+
+  pub upto-same : (n : ℕ) (f g : ℕ → A) → ((i : ℕ) → i < n → f i ≡ g i) → upto n f ≡ upto n g
+  upto-same zero f g h = refl
+  upto-same (suc n) f g h = λ k. h 0 (omega arith) k ∷ upto-same n (λ i. f (suc i)) (λ i. g (suc i)) (λ i l. h (suc i) (omega arith)) k
+
+  pub upto-at : (n : ℕ) (f : ℕ → A) (d : A) (i : ℕ) → i < n → getD (upto n f) i d ≡ f i
+  upto-at zero f d i l = absurd (omega arith)
+  upto-at (suc n) f d zero l = refl
+  upto-at (suc n) f d (suc i) l = upto-at n (λ j. f (suc j)) d i (le-of-suc-le-suc l)
+
+  -- the first of those below n are those below m
+  pub take-upto : (m n : ℕ) (f : ℕ → A) → m ≤ n → take m (upto n f) ≡ upto m f
+  take-upto zero n f h = refl
+  take-upto (suc m) zero f h = absurd (omega arith)
+  take-upto (suc m) (suc n) f h = λ k. f 0 ∷ take-upto m n (λ i. f (suc i)) (le-of-suc-le-suc h) k
+
+module _ {A : Type 0} (w : ℕ) (enc : A → List ℕ) (size : (x : A) → length (enc x) ≡ w) where
+  pub array-length : (xs : List A) → length (concat-map enc xs) ≡ w * length xs
+  array-length [] = omega (arith, mul-zero w)
+  array-length (x ∷ xs) = length-append (enc x) (concat-map enc xs) ∙ omega (arith, size x, array-length xs, mul-suc w (length xs))
+
+  -- the parts after the first one are those of the rest
+  array-next : (x : A) (xs : List A) (rest : List ℕ) (i : ℕ) → cut (concat-map enc (x ∷ xs) ++ rest) (w * suc i) w ≡ cut (concat-map enc xs ++ rest) (w * i) w
+  array-next x xs rest i =
+      let there : w * suc i - w ≡ w * i = omega (arith, mul-suc w i) in
+      rw append-assoc
+      (cut-past (enc x) (concat-map enc xs ++ rest) w (w * suc i) w (size x) (omega (arith, mul-suc w i)) ∙ ap (λ (o : ℕ). cut (concat-map enc xs ++ rest) o w) there)
+
+  -- the part at the i-th place
+  pub array-part : (xs : List A) (rest : List ℕ) (d : A) (i : ℕ) → i < length xs → cut (concat-map enc xs ++ rest) (w * i) w ≡ enc (getD xs i d)
+  array-part [] rest d i l = absurd (omega arith)
+  array-part (x ∷ xs) rest d zero l =
+      rw (append-assoc (enc x) (concat-map enc xs) rest, mul-zero w) (cut-first (enc x) (concat-map enc xs ++ rest) w (size x))
+  array-part (x ∷ xs) rest d (suc i) l = array-next x xs rest i ∙ array-part xs rest d i (le-of-suc-le-suc l)
+
+  -- what was written is read back
+  pub array-back : (dec : List ℕ → A) (xs : List A) (rest : List ℕ) → ((x : A) → List·Memᴰ x xs → dec (enc x) ≡ x)
+      → upto (length xs) (λ i. dec (cut (concat-map enc xs ++ rest) (w * i) w)) ≡ xs
+  array-back dec [] rest back = refl
+  array-back dec (x ∷ xs) rest back =
+      let first : dec (cut (concat-map enc (x ∷ xs) ++ rest) (w * 0) w) ≡ x = ap dec (array-part (x ∷ xs) rest x 0 (omega arith)) ∙ back x (List·Memᴰ·head refl) in
+      let others : upto (length xs) (λ i. dec (cut (concat-map enc (x ∷ xs) ++ rest) (w * suc i) w)) ≡ xs =
+          upto-same (length xs) (λ i. dec (cut (concat-map enc (x ∷ xs) ++ rest) (w * suc i) w)) (λ i. dec (cut (concat-map enc xs ++ rest) (w * i) w)) (λ i l. ap dec (array-next x xs rest i))
+          ∙ array-back dec xs rest (λ y m. back y (List·Memᴰ·tail m)) in
+      λ k. first k ∷ others k

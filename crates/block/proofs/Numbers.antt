@@ -1,0 +1,43 @@
+-- Numbers as bytes and back, over the number of bytes. Assumes nothing.
+use Prim.Native.Nat.{ℕ, zero, suc, _+_, _*_, _-_, _/_, _%_, _^_, _≤_, _<_}
+use mathlib.Core.Path.{_≡_, refl, ap, ap₂, sym, _∙_, subst}
+use mathlib.Core.List.{List, [], _∷_, _++_, List·Memᴰ, List·Memᴰ·head, List·Memᴰ·tail, List·Memᴰ·not-nil, List·Memᴰ·cases-cons}
+use mathlib.Core.Logic.{⊎-elim}
+use native.Mathlib.Nat.{pow-suc, pow-zero}
+use native.Mathlib.Omega.{arith}
+use lib.ListN.{length}
+use Rattle.block.specs.Fields.{le, number}
+
+abbrev pub Bytes : List ℕ → Type 0
+Bytes l = (b : ℕ) → List·Memᴰ b l → b < 256
+
+pub le-length : (n v : ℕ) → length (le n v) ≡ n
+unfolding le
+le-length zero v = refl
+le-length (suc n) v = ap suc (le-length n (v / 256))
+
+pub number-le : (n v : ℕ) → v < 256 ^ n → number (le n v) ≡ v
+unfolding le number
+number-le zero v h = omega (arith, pow-zero 256)
+number-le (suc n) v h = omega (arith, number-le n (v / 256) (omega (arith, h, pow-suc 256 n)))
+
+pub le-is-bytes : (n v : ℕ) → Bytes (le n v)
+unfolding le
+le-is-bytes zero v b m = absurd (List·Memᴰ·not-nil m)
+le-is-bytes (suc n) v b m = ⊎-elim (λ e. omega arith) (le-is-bytes n (v / 256) b) (List·Memᴰ·cases-cons m)
+
+pub number-bound : (l : List ℕ) → Bytes l → number l < 256 ^ length l
+unfolding number
+number-bound [] h = omega (arith, pow-zero 256)
+number-bound (b ∷ bs) h =
+    omega (arith, pow-suc 256 (length bs), number-bound bs (λ x m. h x (List·Memᴰ·tail m)), h b (List·Memᴰ·head refl))
+
+pub le-number : (l : List ℕ) → Bytes l → le (length l) (number l) ≡ l
+unfolding le number
+le-number [] h = refl
+le-number (b ∷ bs) h =
+    let rest = le-number bs (λ x m. h x (List·Memᴰ·tail m)) in
+    let small : b < 256 = h b (List·Memᴰ·head refl) in
+    let low : (b + 256 * number bs) % 256 ≡ b = omega arith in
+    let high : (b + 256 * number bs) / 256 ≡ number bs = omega arith in
+    rw (low, high, rest)
