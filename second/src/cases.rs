@@ -5,7 +5,7 @@ use crate::block::{mend, BLOCK};
 use crate::call::{Call, Op};
 use crate::compose::{compose, possible, sets_of_two, Wanted};
 use crate::crew::{Shape, Weather};
-use crate::flaws::{self, image_flaws};
+use crate::flaws::{self, flawed_image_block, image_flaws, ANY_BLOCK, POINT_BLOCK};
 use crate::image::{self, IMAGE};
 use crate::madeup::{good_state, held_jobs, some_ask, some_controller, some_outgoing, some_point, some_reply};
 use crate::names::{Controller, Counter, Point, EIGHT};
@@ -15,6 +15,7 @@ use crate::steps::LONGEST_REPLY;
 use crate::store::Store;
 use crate::stream::{Answers, Recorder, SlotCall, NO_SLOT, SLOT_BYTES};
 use crate::table::Table;
+use std::collections::BTreeSet;
 use std::io::{self, Write};
 
 /// Which slot is used for what.
@@ -156,22 +157,39 @@ impl<W: Write> Maker<'_, W> {
             }
         }
         for (name, flaw) in image_flaws() {
-            let image = loop {
-                let state = good_state(&mut self.random);
-                if let Some(image) = flaw(&mut self.random, &state) {
-                    break image;
-                }
-            };
-            self.recorder.label(&format!("image flaw: {name}"))?;
-            self.recorder.put(slot::IMAGE, &image)?;
-            self.any_call_on_scratch_image()?;
+            self.flawed_image(name, flaw)?;
         }
-        let lists = [flaws::ANY_BLOCK, flaws::POINT_BLOCK, flaws::LETTER];
-        // Drawn, not listed: this many draws leave out a given flaw hardly ever.
-        for _ in 0..8 * lists.iter().map(|list| list.len()).sum::<usize>() {
-            self.flawed_message()?;
+        for flaw in ANY_BLOCK {
+            self.flawed_image(flaw.0, |random, state| flawed_image_block(random, state, flaw, false))?;
+        }
+        for flaw in ANY_BLOCK.iter().chain(POINT_BLOCK) {
+            self.flawed_image(flaw.0, |random, state| flawed_image_block(random, state, flaw, true))?;
+        }
+        for op in [Op::TakeIn, Op::Reply, Op::Repair] {
+            let mut names = BTreeSet::new();
+            while names.len() < flaws::ill_forms(op) {
+                let state = good_state(&mut self.random);
+                if let Some((bytes, name)) = flaws::ill_formed(&mut self.random, op, &state) {
+                    if names.insert(name) {
+                        self.message(op, &state, bytes, name)?;
+                    }
+                }
+            }
         }
         Ok(())
+    }
+
+    /// Some call on an image with this flaw.
+    fn flawed_image(&mut self, name: &str, flaw: impl Fn(&mut Random, &State) -> Option<Vec<u8>>) -> io::Result<()> {
+        let image = loop {
+            let state = good_state(&mut self.random);
+            if let Some(image) = flaw(&mut self.random, &state) {
+                break image;
+            }
+        };
+        self.recorder.label(&format!("image flaw: {name}"))?;
+        self.recorder.put(slot::IMAGE, &image)?;
+        self.any_call_on_scratch_image()
     }
 
     // Calls on the crew's slots.
@@ -626,23 +644,17 @@ impl<W: Write> Maker<'_, W> {
     /// An ill-formed message with right checks, to a made-up good image.
     fn flawed_message(&mut self) -> io::Result<()> {
         let state = good_state(&mut self.random);
-        let table = state.table;
         let op = *self.random.pick(&[Op::TakeIn, Op::Reply, Op::Repair]);
-        let flawed = match op {
-            Op::TakeIn => some_outgoing(&mut self.random, &state)
-                .and_then(|message| flaws::ill_formed_outgoing(&mut self.random, &table, &message)),
-            Op::Reply => {
-                let mut ask = some_ask(&mut self.random, &state).encode_ask().to_vec();
-                flaws::ill_formed_letter(&mut self.random, &table, &mut ask).map(|name| (ask, name))
-            }
-            _ => {
-                let reply = some_reply(&mut self.random, &state);
-                flaws::ill_formed_reply(&mut self.random, &table, &reply)
-            }
-        };
-        let Some((bytes, name)) = flawed else { return Ok(()) };
+        match flaws::ill_formed(&mut self.random, op, &state) {
+            Some((bytes, name)) => self.message(op, &state, bytes, name),
+            None => Ok(()),
+        }
+    }
+
+    /// A call that takes an ill-formed message.
+    fn message(&mut self, op: Op, state: &State, bytes: Vec<u8>, name: &str) -> io::Result<()> {
         self.recorder.label(&format!("message flaw: {name}"))?;
-        let mut call = Call::on(op, image::encode(&state));
+        let mut call = Call::on(op, image::encode(state));
         call.input = bytes;
         if op == Op::Reply {
             call.out = vec![0; LONGEST_REPLY];

@@ -5,8 +5,9 @@
 //! no peer) is not possible there, and hands back nothing.
 
 use crate::block::{mend, u16_at, u32_at, BLOCK};
+use crate::call::Op;
 use crate::image;
-use crate::madeup::{held_jobs, holders};
+use crate::madeup::{held_jobs, holders, some_ask, some_outgoing, some_reply};
 use crate::messages::{Outgoing, Reply};
 use crate::names::{Controller, Counter, Dot, Job, Point, EIGHT};
 use crate::object::{Content, Object, Value};
@@ -340,16 +341,14 @@ pub const IMAGE_CHECKS: &[ImageFlaw] = &[
 /// Flaws of an image with right checks: the blocks' form.
 pub const IMAGE_FORM: &[ImageFlaw] = &[
     ("any block's kind, format, position", |random, state| {
-        let flaw = random.pick(ANY_BLOCK).1;
-        perhaps_patched(state, used_block(random, state), |block| flaw(random, block))
+        let flaw = random.pick(ANY_BLOCK);
+        flawed_image_block(random, state, flaw, false)
     }),
     ("a stored point's block", |random, state| {
-        let flaw = random.pick(POINT_BLOCK).1;
-        perhaps_patched(state, record_block(random, state)?, |block| flaw(random, block))
+        let flaw = random.pick(POINT_BLOCK);
+        flawed_image_block(random, state, flaw, true)
     }),
-    ("a stored point's sender", |random, state| {
-        perhaps_patched(state, record_block(random, state)?, |block| STORED_SENDER[0].1(random, block))
-    }),
+    ("a stored point's sender", |random, state| flawed_image_block(random, state, &STORED_SENDER[0], true)),
     ("own number", |random, state| {
         patched(state, 0, |block| {
             block[4] = *random.pick(&[0, 9, 255]);
@@ -680,6 +679,12 @@ pub fn image_flaws() -> impl Iterator<Item = &'static ImageFlaw> {
     IMAGE_CHECKS.iter().chain(IMAGE_FORM).chain(IMAGE_MEANING)
 }
 
+/// The image with a flaw in one of its blocks: in any used one, or in a stored point's.
+pub fn flawed_image_block(random: &mut Random, state: &State, flaw: &BlockFlaw, stored: bool) -> Option<Vec<u8>> {
+    let number = if stored { record_block(random, state)? } else { used_block(random, state) };
+    perhaps_patched(state, number, |block| flaw.1(random, block))
+}
+
 /// A bad image, made from a good state by any flaw that is possible there.
 pub fn bad_image(random: &mut Random, state: &State) -> Vec<u8> {
     loop {
@@ -814,5 +819,37 @@ pub fn ill_formed_reply(random: &mut Random, table: &Table, reply: &Reply) -> Op
             let name = flawed_block(random, &[ANY_BLOCK, POINT_BLOCK, POINT_BLOCK, STORED_SENDER], block)?;
             Some((blocks, name))
         }
+    }
+}
+
+/// An ill-formed message with right checks for a call that takes one, made up for this state, and what is wrong with it.
+pub fn ill_formed(random: &mut Random, op: Op, state: &State) -> Option<(Vec<u8>, &'static str)> {
+    match op {
+        Op::TakeIn => {
+            let message = some_outgoing(random, state)?;
+            ill_formed_outgoing(random, &state.table, &message)
+        }
+        Op::Reply => {
+            let mut ask = some_ask(random, state).encode_ask().to_vec();
+            ill_formed_letter(random, &state.table, &mut ask).map(|name| (ask, name))
+        }
+        Op::Repair => {
+            let reply = some_reply(random, state);
+            ill_formed_reply(random, &state.table, &reply)
+        }
+        _ => None,
+    }
+}
+
+/// How many different things [`ill_formed`] finds to be wrong with a message of that call.
+pub fn ill_forms(op: Op) -> usize {
+    let block = ANY_BLOCK.len() + POINT_BLOCK.len();
+    // Of an object: non-holder in a dot, in a context, version not covered. Of a letter: a row of a controller in no job.
+    match op {
+        Op::TakeIn => block + OUTGOING_SENDER.len() + 3,
+        Op::Reply => ANY_BLOCK.len() + LETTER.len() + 1,
+        // Also fewer and more blocks, points out of order and twice, a dot in two points.
+        Op::Repair => block + STORED_SENDER.len() + 3 + LETTER.len() + 1 + 5,
+        _ => 0,
     }
 }

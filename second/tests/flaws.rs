@@ -1,15 +1,15 @@
 //! Every clause of "good" and of refusal 4, broken one at a time.
 
-mod common;
-
-use common::*;
+use second::call::{Call, Op};
 use second::calls;
 use second::flaws::*;
 use second::image;
 use second::madeup::*;
 use second::random::Random;
 use second::refusal::Refusal;
-use std::collections::BTreeMap;
+use second::steps::LONGEST_REPLY;
+use second::store::Second;
+use std::collections::{BTreeMap, BTreeSet};
 
 #[test]
 fn every_image_flaw_is_noticed() {
@@ -71,31 +71,20 @@ fn every_flaw_of_a_points_block_is_noticed() {
 #[test]
 fn every_message_flaw_is_refused_with_4() {
     let mut random = Random::new(33);
-    let mut times: BTreeMap<(&str, &str), u32> = BTreeMap::new();
+    let mut names: BTreeMap<Op, BTreeSet<&str>> = BTreeMap::new();
     for _ in 0..6000 {
         let state = good_state(&mut random);
-        let mut device = Handheld::of(&state);
-        if let Some(message) = some_outgoing(&mut random, &state) {
-            if let Some((bytes, name)) = ill_formed_outgoing(&mut random, &state.table, &message) {
-                assert_eq!(device.take_in(&bytes), Err(Refusal::IllFormed), "kind 4: {name}");
-                *times.entry(("kind 4", name)).or_default() += 1;
+        for op in [Op::TakeIn, Op::Reply, Op::Repair] {
+            if let Some((bytes, name)) = ill_formed(&mut random, op, &state) {
+                let mut call = Call::on(op, image::encode(&state));
+                call.input = bytes;
+                call.out = vec![0; LONGEST_REPLY];
+                assert_eq!(call.make(&Second), (Refusal::IllFormed.number(), 0), "{op:?}: {name}");
+                names.entry(op).or_default().insert(name);
             }
         }
-        let mut ask = some_ask(&mut random, &state).encode_ask();
-        if let Some(name) = ill_formed_letter(&mut random, &state.table, &mut ask) {
-            assert_eq!(device.reply(&ask), Err(Refusal::IllFormed), "ask: {name}");
-            *times.entry(("ask", name)).or_default() += 1;
-        }
-        let reply = some_reply(&mut random, &state);
-        if let Some((bytes, name)) = ill_formed_reply(&mut random, &state.table, &reply) {
-            assert_eq!(device.repair(&bytes), Err(Refusal::IllFormed), "reply: {name}");
-            *times.entry(("reply", name)).or_default() += 1;
-        }
     }
-    let names = |kind| times.keys().filter(|(of, _)| *of == kind).count();
-    let blocks = ANY_BLOCK.len() + POINT_BLOCK.len();
-    assert_eq!(names("kind 4"), blocks + 1 + 3, "{times:?}");
-    assert_eq!(names("ask"), ANY_BLOCK.len() + LETTER.len() + 1, "{times:?}");
-    // Kind, format and position count once for head and points.
-    assert_eq!(names("reply"), blocks + LETTER.len() + 1 + 1 + 3 + 5, "{times:?}");
+    for op in [Op::TakeIn, Op::Reply, Op::Repair] {
+        assert_eq!(names[&op].len(), ill_forms(op), "{op:?}: {names:?}");
+    }
 }

@@ -29,32 +29,39 @@ module _ {A : Type 0} where
   take-upto (suc m) zero f h = absurd (omega arith)
   take-upto (suc m) (suc n) f h = λ k. f 0 ∷ take-upto m n (λ i. f (suc i)) (le-of-suc-le-suc h) k
 
-module _ {A : Type 0} (w : ℕ) (enc : A → List ℕ) (size : (x : A) → length (enc x) ≡ w) where
-  pub array-length : (xs : List A) → length (concat-map enc xs) ≡ w * length xs
-  array-length [] = omega (arith, mul-zero w)
-  array-length (x ∷ xs) = length-append (enc x) (concat-map enc xs) ∙ omega (arith, size x, array-length xs, mul-suc w (length xs))
+-- each of a list is written in w bytes
+abbrev pub EachOf : {A : Type 0} → ℕ → (A → List ℕ) → List A → Type 0
+EachOf {A} w enc xs = (x : A) → List·Memᴰ x xs → length (enc x) ≡ w
+
+module _ {A : Type 0} (w : ℕ) (enc : A → List ℕ) where
+  pub array-length : (xs : List A) → EachOf w enc xs → length (concat-map enc xs) ≡ w * length xs
+  array-length [] size = omega (arith, mul-zero w)
+  array-length (x ∷ xs) size =
+      length-append (enc x) (concat-map enc xs) ∙ omega (arith, size x (List·Memᴰ·head refl), array-length xs (λ y m. size y (List·Memᴰ·tail m)), mul-suc w (length xs))
 
   -- the parts after the first one are those of the rest
-  array-next : (x : A) (xs : List A) (rest : List ℕ) (i : ℕ) → cut (concat-map enc (x ∷ xs) ++ rest) (w * suc i) w ≡ cut (concat-map enc xs ++ rest) (w * i) w
-  array-next x xs rest i =
+  array-next : (x : A) (xs : List A) (rest : List ℕ) (i : ℕ) → length (enc x) ≡ w → cut (concat-map enc (x ∷ xs) ++ rest) (w * suc i) w ≡ cut (concat-map enc xs ++ rest) (w * i) w
+  array-next x xs rest i size =
       let there : w * suc i - w ≡ w * i = omega (arith, mul-suc w i) in
       rw append-assoc
-      (cut-past (enc x) (concat-map enc xs ++ rest) w (w * suc i) w (size x) (omega (arith, mul-suc w i)) ∙ ap (λ (o : ℕ). cut (concat-map enc xs ++ rest) o w) there)
+      (cut-past (enc x) (concat-map enc xs ++ rest) w (w * suc i) w size (omega (arith, mul-suc w i)) ∙ ap (λ (o : ℕ). cut (concat-map enc xs ++ rest) o w) there)
 
   -- the part at the i-th place
-  pub array-part : (xs : List A) (rest : List ℕ) (d : A) (i : ℕ) → i < length xs → cut (concat-map enc xs ++ rest) (w * i) w ≡ enc (getD xs i d)
-  array-part [] rest d i l = absurd (omega arith)
-  array-part (x ∷ xs) rest d zero l =
-      rw (append-assoc (enc x) (concat-map enc xs) rest, mul-zero w) (cut-first (enc x) (concat-map enc xs ++ rest) w (size x))
-  array-part (x ∷ xs) rest d (suc i) l = array-next x xs rest i ∙ array-part xs rest d i (le-of-suc-le-suc l)
+  pub array-part : (xs : List A) (rest : List ℕ) (d : A) (i : ℕ) → EachOf w enc xs → i < length xs → cut (concat-map enc xs ++ rest) (w * i) w ≡ enc (getD xs i d)
+  array-part [] rest d i size l = absurd (omega arith)
+  array-part (x ∷ xs) rest d zero size l =
+      rw (append-assoc (enc x) (concat-map enc xs) rest, mul-zero w) (cut-first (enc x) (concat-map enc xs ++ rest) w (size x (List·Memᴰ·head refl)))
+  array-part (x ∷ xs) rest d (suc i) size l =
+      array-next x xs rest i (size x (List·Memᴰ·head refl)) ∙ array-part xs rest d i (λ y m. size y (List·Memᴰ·tail m)) (le-of-suc-le-suc l)
 
   -- what was written is read back
-  pub array-back : (dec : List ℕ → A) (xs : List A) (rest : List ℕ) → ((x : A) → List·Memᴰ x xs → dec (enc x) ≡ x)
+  pub array-back : (dec : List ℕ → A) (xs : List A) (rest : List ℕ) → EachOf w enc xs → ((x : A) → List·Memᴰ x xs → dec (enc x) ≡ x)
       → upto (length xs) (λ i. dec (cut (concat-map enc xs ++ rest) (w * i) w)) ≡ xs
-  array-back dec [] rest back = refl
-  array-back dec (x ∷ xs) rest back =
-      let first : dec (cut (concat-map enc (x ∷ xs) ++ rest) (w * 0) w) ≡ x = ap dec (array-part (x ∷ xs) rest x 0 (omega arith)) ∙ back x (List·Memᴰ·head refl) in
+  array-back dec [] rest size back = refl
+  array-back dec (x ∷ xs) rest size back =
+      let first : dec (cut (concat-map enc (x ∷ xs) ++ rest) (w * 0) w) ≡ x = ap dec (array-part (x ∷ xs) rest x 0 size (omega arith)) ∙ back x (List·Memᴰ·head refl) in
       let others : upto (length xs) (λ i. dec (cut (concat-map enc (x ∷ xs) ++ rest) (w * suc i) w)) ≡ xs =
-          upto-same (length xs) (λ i. dec (cut (concat-map enc (x ∷ xs) ++ rest) (w * suc i) w)) (λ i. dec (cut (concat-map enc xs ++ rest) (w * i) w)) (λ i l. ap dec (array-next x xs rest i))
-          ∙ array-back dec xs rest (λ y m. back y (List·Memᴰ·tail m)) in
+          upto-same (length xs) (λ i. dec (cut (concat-map enc (x ∷ xs) ++ rest) (w * suc i) w)) (λ i. dec (cut (concat-map enc xs ++ rest) (w * i) w))
+          (λ i l. ap dec (array-next x xs rest i (size x (List·Memᴰ·head refl))))
+          ∙ array-back dec xs rest (λ y m. size y (List·Memᴰ·tail m)) (λ y m. back y (List·Memᴰ·tail m)) in
       λ k. first k ∷ others k

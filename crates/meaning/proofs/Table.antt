@@ -1,10 +1,10 @@
--- The foreman's examples K2 to K12 as one table, and the other worked runs beside them, computed with the definitions themselves.
+-- The foreman's examples K1 to K12 as one table, computed with the definitions themselves.
 -- Assumes nothing.
 use Prim.Native.Nat.{ℕ, zero, suc, _+_, _^_}
 use mathlib.Core.Path.{_≡_, refl}
 use mathlib.Core.Bool.{Bool, true, false}
 use mathlib.Core.List.{List, [], _∷_}
-use lib.ListN.{length}
+use lib.ListN.{length, replicate}
 use Rattle.numbers.specs.declared.Controller.{Controller}
 use Rattle.numbers.specs.declared.Dot.{Dot}
 use Rattle.numbers.specs.declared.Key.{Key}
@@ -14,6 +14,7 @@ use Rattle.numbers.specs.Dot.{dot}
 use Rattle.numbers.specs.Key.{key, is-key}
 use Rattle.refusal.specs.declared.Refusal.the-variants.{ContextAhead, NotPeer, RowTooFar, TooManyVersions, OwnListFull}
 use Rattle.refusal.specs.Refusal.{Answer, refused, accepted, refuse_when_else_, _>>=_}
+use Rattle.block.specs.Check.{sums-from, sums}
 use Rattle.row.specs.declared.Row.{Row}
 use Rattle.row.specs.declared.Added.the-variants.{Now, TooFar}
 use Rattle.row.specs.Row.{bit, has, advance, advanced, add, unite, digits, highest, fits, sound, addUp}
@@ -30,7 +31,7 @@ use Rattle.meaning.specs.Good.{sized, rows-sound, own-row-whole, points-
 
 -- to unfold this is to compute with every definition
 unfoldable pub everything : Unit {0}
-unfolding is-controller is-counter is-point is-job is-key refuse_when_else_ bit has advance advanced add unite digits highest fits sound addUp is-table holds share-job in-some-job every-row in-clock enter with-row is-empty covers fill-context strip-context higher has-dot fill strip survivors merge gone peers dots-of look-up local contents-formed version-formed versions-formed context-formed point-formed covers-all is-none clock-formed dots-agree outgoing-formed ask-formed reply-formed entered without put newly-listed own-listed foreign-listed settled settle start ours shown read next-dot written context-ahead put-down write delete strip-pass both-hold other-peer ahead-of-us row-ahead-of-us clashes take-in ask lacking as-stored reply raised known-to-all tidied mended repair sized rows-sound own-row-whole points-formed points-ascend listed-formed lists-formed lists-ascend lists-apart jobs-held versions-covered versions-in-clock lists-in-clock dots-apart rows-of-peers marks-of-peers own-marks-known own-entries-known records-needed clauses goodState
+unfolding sums-from sums is-controller is-counter is-point is-job is-key refuse_when_else_ bit has advance advanced add unite digits highest fits sound addUp is-table holds share-job in-some-job every-row in-clock enter with-row is-empty covers fill-context strip-context higher has-dot fill strip survivors merge gone peers dots-of look-up local contents-formed version-formed versions-formed context-formed point-formed covers-all is-none clock-formed dots-agree outgoing-formed ask-formed reply-formed entered without put newly-listed own-listed foreign-listed settled settle start ours shown read next-dot written context-ahead put-down write delete strip-pass both-hold other-peer ahead-of-us row-ahead-of-us clashes take-in ask lacking as-stored reply raised known-to-all tidied mended repair sized rows-sound own-row-whole points-formed points-ascend listed-formed lists-formed lists-ascend lists-apart jobs-held versions-covered versions-in-clock lists-in-clock dots-apart rows-of-peers marks-of-peers own-marks-known own-entries-known records-needed clauses goodState
 everything = tt
 
 -- "Table: job 0 held by 1 and 2. Point 7 of job 0."
@@ -129,6 +130,7 @@ abbrev still : Answer (List Stored × Row)
 still = again >>= λ s. accepted (s .points, row-1 s)
 
 pub record Table : Type 0 where
+  pub k1 : sums (0x05 ∷ 0x01 ∷ replicate 510 0) ≡ record { s1 = 261; s2 = 759 }
   pub k2 : add (row-of 3 2) (counter 4) ≡ row-of 5 0
   pub k3 : addUp (row-of 3 0) (counter 67) ≡ Now (row-of 3 (2 ^ 63))
   pub k4 : addUp (row-of 3 0) (counter 68) ≡ TooFar
@@ -144,6 +146,7 @@ pub record Table : Type 0 where
 pub table : Table
 unfolding everything
 table = record {
+  k1 = refl;
   k2 = refl;
   k3 = refl;
   k4 = refl;
