@@ -24,9 +24,12 @@ splice l a n b = take a l ++ (b ++ drop n (drop a l))
 unfoldable pub field : List ℕ → ℕ → ℕ → ℕ
 field b a n = number (cut b a n)
 
+abbrev pub zeros : ℕ → List ℕ
+zeros n = replicate n 0
+
 -- "padded with zeros to" n bytes
 unfoldable pub pad : ℕ → List ℕ → List ℕ
-pad n l = l ++ replicate (n - length l) 0
+pad n l = l ++ zeros (n - length l)
 
 -- one thing for each number below n
 abbrev pub upto : {A : Type 0} → ℕ → (ℕ → A) → List A

@@ -1,1 +1,2 @@
 pub mod PointBack
+pub mod ImageBack

@@ -76,9 +76,6 @@ module _ (f : Form) (roomy : Roomy f) (v : Version) (S : SlotSized f v) where
   unfolding decode-slot encode-slot
   slot-back = λ i. record { dot = dot (who i) (count i); contents = contents i }
     where
-      b : List ℕ
-      b = le 1 (v .dot .who .0) ++ from-length
-
       past-who : (o n : ℕ) → 1 ≤ o → cut (le 1 (v .dot .who .0) ++ from-length) o n ≡ cut from-length (o - 1) n
       past-who o n h = cut-past (le 1 (v .dot .who .0)) from-length 1 o n (le-length 1 (v .dot .who .0)) h
 

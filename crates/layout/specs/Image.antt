@@ -3,13 +3,13 @@
 use Prim.Native.Nat.{ℕ, _+_, _*_, _-_}
 use mathlib.Core.Bool.{Bool, true, false, _&&_, not}
 use mathlib.Core.List.{List, [], _∷_, _++_}
-use lib.ListN.{length, take, replicate}
+use lib.ListN.{length, take}
 use lib.Dec.{eqb}
 use Rattle.numbers.specs.Words.{if_then_else_, map, concat-map, same-list}
 use Rattle.numbers.specs.Numbers.{controller}
 use Rattle.numbers.specs.Dot.{dot}
 use Rattle.numbers.specs.Key.{key}
-use Rattle.block.specs.Fields.{le, cut, field, upto}
+use Rattle.block.specs.Fields.{le, cut, field, zeros, upto}
 use Rattle.block.specs.Block.{make-block, block-at}
 use Rattle.meaning.specs.State.{Stored, Listed, Watermark, State}
 use Rattle.meaning.specs.Settle.{most-points, most-listed}
@@ -66,7 +66,7 @@ encode s =
     ++ (encode-dots 1 (s .own-dots)
     ++ (encode-dots 2 (s .foreign-dots)
     ++ (encode-points 3 (s .points)
-    ++ replicate (512 * (most-points - length (s .points))) 0)))
+    ++ zeros (512 * (most-points - length (s .points))))))
 
 -- the blocks up to the first of kind 0
 abbrev pub until-zero : List (List ℕ) → List (List ℕ)
