@@ -57,7 +57,7 @@ impl Op {
         matches!(self, Op::Read | Op::Write | Op::Delete | Op::Ask | Op::Reply)
     }
 
-    /// The refusals that the call can give, in order (`design/decisions.md` of the project has the table).
+    /// The refusals that the call can give, in order, after the project's settled readings.
     pub fn refusals(self) -> &'static [Refusal] {
         use Refusal::*;
         match self {

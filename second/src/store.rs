@@ -57,16 +57,15 @@ pub struct Second;
 
 impl Store for Second {}
 
-/// This program's calls, with a look at the image after each accepted one: "Every accepted step leaves a good image."
-/// A panic tells of one that does not.
+/// This program's calls, with a look at the image after each accepted one: "Every accepted step leaves a good image." One
+/// that did not would be answered with refusal 2, which nobody recorded.
 pub struct Looked;
 
 impl Looked {
     fn at<T>(image: &[u8], answer: Result<T, Refusal>) -> Result<T, Refusal> {
-        assert!(
-            answer.is_err() || crate::image::decode(image).is_some(),
-            "an accepted step left an image that is not good"
-        );
+        if answer.is_ok() && crate::image::decode(image).is_none() {
+            return Err(Refusal::ImageNotGood);
+        }
         answer
     }
 }

@@ -1,8 +1,6 @@
 //! The simulator is worth something only if it notices faults. Here it is run on stores with a planted one: the
 //! document's "Shortcuts that have cost us", its four empty programs, and a few more. Each must be noticed.
 
-mod common;
-
 use second::block::{mend, BLOCK};
 use second::calls;
 use second::image;

@@ -1,7 +1,5 @@
 //! Recorded streams: what is recorded comes back, nothing escapes the replay, and the cases cover what they must.
 
-mod common;
-
 use second::call::Op;
 use second::calls;
 use second::cases::cases;

@@ -1,2 +1,3 @@
 pub mod PointBack
 pub mod ImageBack
+pub mod MessagesBack
