@@ -1,5 +1,5 @@
-//! Flaws: images that break one clause of "good", and messages that break one clause of refusal 4. All but the first few
-//! have right checks, so that it is the clause that must be noticed.
+//! Flaws: images that break a clause of "good", and messages that break a clause of refusal 4, one where that is possible.
+//! All but the first few have right checks, so that it is the clause that must be noticed.
 //!
 //! A flaw that needs something which a state or message does not have (a second version to swap, a controller that is
 //! no peer) is not possible there, and hands back nothing.

@@ -1,4 +1,4 @@
-//! Every clause of "good" and of refusal 4, broken one at a time.
+//! Every clause of "good" and of refusal 4, broken by a flaw of its own.
 
 use second::call::{Call, Op};
 use second::calls;

@@ -11,3 +11,4 @@ pub mod Writing
 pub mod Merging
 pub mod OtherSteps
 pub mod StaysGood
+pub mod Sends

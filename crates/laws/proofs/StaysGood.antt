@@ -8,7 +8,7 @@ use native.Mathlib.Omega.{arith}
 use native.Mathlib.Nat.{le-trans}
 use lib.ListN.{length}
 use lib.Dec.{leb, ltb, eqb}
-use borrow.Author.Tests.{leb-false, leb-true, ltb-false, ltb-true, le-leb, eqb-true, not-true}
+use borrow.Author.Tests.{leb-false, ltb-false, le-leb, lt-ltb, not-true}
 use Rattle.numbers.specs.declared.Controller.{Controller}
 use Rattle.numbers.specs.declared.Counter.{Counter}
 use Rattle.numbers.specs.declared.Dot.{Dot}
@@ -40,7 +40,7 @@ use Rattle.laws.proofs.ContextLaws.{fill-holder}
 use Rattle.laws.proofs.Facts.{PointFacts, point-facts, covers-each, row-at, dots-in, agree-at}
 use Rattle.laws.proofs.Goodness.{Good, good-facts, facts-good}
 use Rattle.laws.proofs.Entering.{united-row, entered-base}
-use Rattle.laws.proofs.Settling.{settled-good}
+use Rattle.laws.proofs.Settling.{Results, Limits, settled-good}
 use Rattle.laws.proofs.Local.{fill-context-facts}
 use Rattle.laws.proofs.Answers.{same-accepted, passes, passes-not, bound, settle-accepted}
 use Rattle.laws.proofs.Writing.{written-fits}
@@ -53,38 +53,53 @@ held-here : (s : State) (k : Key) → ours s k ≡ true → (is-key k ≡ true) 
 unfolding ours
 held-here s k t = (and-left (is-key k) (holds (s .table) (s .own) (k .job)) t, and-right (is-key k) (holds (s .table) (s .own) (k .job)) t)
 
-put-down-good : (s : State) (k : Key) (b : Contents) (c : Context) (d : Done) → Good s → ours s k ≡ true → contents-formed b ≡ true → put-down s k b c ≡ accepted d → Good (d .state)
+-- what an accepted write or delete has tested, and what it gives
+pub record PutDown (s : State) (k : Key) (b : Contents) (c : Context) (d : Done) : Type 0 where
+  pub fit : Results s (s .clock) (record { key = k; object = written s k b c } ∷ [])
+  pub limits : Limits s (s .clock) (record { key = k; object = written s k b c } ∷ [])
+  pub state : settled s (s .clock) (record { key = k; object = written s k b c } ∷ []) ≡ d .state
+  pub message : record { sender = s .own; key = k; object = written s k b c } ≡ d .message
+
+pub put-down-accepted : (s : State) (k : Key) (b : Contents) (c : Context) (d : Done) → Good s → ours s k ≡ true → contents-formed b ≡ true → put-down s k b c ≡ accepted d → PutDown s k b c d
 unfolding put-down
-put-down-good s k b c d G t said e =
+put-down-accepted s k b c d G t said e =
     let held = held-here s k t in
     let first = passes ContextAhead (context-ahead s k c) _ e in
     let kept = bound (settle s (s .clock) (record { key = k; object = written s k b c } ∷ [])) _ (first .1) in
     let room = passes OwnListFull (leb most-listed (length (s .own-dots))) _ (kept .2) in
     let left = passes CountersUsedUp (leb last-counter (own-base s)) _ (room .1) in
     let after = settle-accepted s (s .clock) (record { key = k; object = written s k b c } ∷ []) (kept .1) in
-    let fit = written-fits s G k b c (held .0) (held .1) said (leb-false most-listed (length (s .own-dots)) (room .0)) (leb-false last-counter (own-base s) (left .0)) in
-    subst (λ (x : State). Good x) (after .1 ∙ ap (λ (x : Done). x .state) (same-accepted _ d (left .1)))
-    (settled-good s (s .clock) (record { key = k; object = written s k b c } ∷ []) G fit (after .0))
+    let done = same-accepted _ d (left .1) in
+    record {
+      fit = written-fits s G k b c (held .0) (held .1) said (leb-false most-listed (length (s .own-dots)) (room .0)) (leb-false last-counter (own-base s) (left .0));
+      limits = after .0;
+      state = after .1 ∙ ap (λ (x : Done). x .state) done;
+      message = ap (λ (x : Done). x .message) done;
+    }
+
+put-down-good : (s : State) (k : Key) (b : Contents) (c : Context) (d : Done) → Good s → PutDown s k b c d → Good (d .state)
+put-down-good s k b c d G P =
+    subst (λ (x : State). Good x) (P .state) (settled-good s (s .clock) (record { key = k; object = written s k b c } ∷ []) G (P .fit) (P .limits))
 
 -- the bytes of a value are bytes
 abbrev pub Bytes : List ℕ → Type 0
 Bytes v = (b : ℕ) → b ∈ v → b < 256
 
-write-good : (s : State) (k : Key) (v : List ℕ) (c : Context) (d : Done) → Good s → Bytes v → write s k v c ≡ accepted d → Good (d .state)
+pub write-accepted : (s : State) (k : Key) (v : List ℕ) (c : Context) (d : Done) → Good s → Bytes v → write s k v c ≡ accepted d → PutDown s k (value v) c d
 unfolding write contents-formed
-write-good s k v c d G bytes e =
+write-accepted s k v c d G bytes e =
     let first = passes-not OutOfRange (ours s k) _ e in
     let second = passes ValueTooLong (ltb longest-value (length v)) _ (first .1) in
-    put-down-good s k (value v) c d G (first .0)
+    put-down-accepted s k (value v) c d G (first .0)
     (and-both (leb (length v) longest-value) (all? (λ b. ltb b 256) v) (le-leb (length v) longest-value (ltb-false longest-value (length v) (second .0)))
-    (in-all (λ b. ltb b 256) v (λ b m. borrow.Author.Tests.lt-ltb b 256 (bytes b m))))
+    (in-all (λ b. ltb b 256) v (λ b m. lt-ltb b 256 (bytes b m))))
     (second .1)
 
-delete-good : (s : State) (k : Key) (c : Context) (d : Done) → Good s → delete s k c ≡ accepted d → Good (d .state)
+pub delete-accepted : (s : State) (k : Key) (c : Context) (d : Done) → Good s → delete s k c ≡ accepted d → PutDown s k deleted c d
 unfolding delete contents-formed
-delete-good s k c d G e =
+delete-accepted s k c d G e =
     let first = passes-not OutOfRange (ours s k) _ e in
-    put-down-good s k deleted c d G (first .0) refl (first .1)
+    put-down-accepted s k deleted c d G (first .0) refl (first .1)
 
 -- ---- take in
 
@@ -291,9 +306,9 @@ step-good : (s : State) (d : Step) (x : State) → Good s → Typed d → step s
 unfolding step
 step-good s (reads k) x G t e = let q = bound (read s k) (λ o. accepted s) e in subst (λ (y : State). Good y) (same-accepted s x (q .2)) G
 step-good s (writes k v c) x G t e =
-    let q = bound (write s k v c) (λ d. accepted (d .state)) e in subst (λ (y : State). Good y) (same-accepted (q .0 .state) x (q .2)) (write-good s k v c (q .0) G t (q .1))
+    let q = bound (write s k v c) (λ d. accepted (d .state)) e in subst (λ (y : State). Good y) (same-accepted (q .0 .state) x (q .2)) (put-down-good s k (value v) c (q .0) G (write-accepted s k v c (q .0) G t (q .1)))
 step-good s (deletes k c) x G t e =
-    let q = bound (delete s k c) (λ d. accepted (d .state)) e in subst (λ (y : State). Good y) (same-accepted (q .0 .state) x (q .2)) (delete-good s k c (q .0) G (q .1))
+    let q = bound (delete s k c) (λ d. accepted (d .state)) e in subst (λ (y : State). Good y) (same-accepted (q .0 .state) x (q .2)) (put-down-good s k deleted c (q .0) G (delete-accepted s k c (q .0) G (q .1)))
 step-good s (takes-in m) x G t e = take-in-good s m x G e
 step-good s (asks to) x G t e = let q = bound (ask s to) (λ a. accepted s) e in subst (λ (y : State). Good y) (same-accepted s x (q .2)) G
 step-good s (replies a) x G t e = let q = bound (reply s a) (λ r. accepted s) e in subst (λ (y : State). Good y) (same-accepted s x (q .2)) G
