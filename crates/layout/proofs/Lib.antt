@@ -1,3 +1,5 @@
 pub mod PointBack
 pub mod ImageBack
 pub mod MessagesBack
+pub mod Sizes
+pub mod CallsGood
