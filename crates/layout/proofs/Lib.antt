@@ -3,3 +3,4 @@ pub mod ImageBack
 pub mod MessagesBack
 pub mod Sizes
 pub mod CallsGood
+pub mod Vectors
