@@ -61,7 +61,7 @@ module _ {A : Type 0} (w : ℕ) (enc : A → List ℕ) where
   array-back dec (x ∷ xs) rest size back =
       let first : dec (cut (concat-map enc (x ∷ xs) ++ rest) (w * 0) w) ≡ x = ap dec (array-part (x ∷ xs) rest x 0 size (omega arith)) ∙ back x (List·Memᴰ·head refl) in
       let others : upto (length xs) (λ i. dec (cut (concat-map enc (x ∷ xs) ++ rest) (w * suc i) w)) ≡ xs =
-          upto-same (length xs) (λ i. dec (cut (concat-map enc (x ∷ xs) ++ rest) (w * suc i) w)) (λ i. dec (cut (concat-map enc xs ++ rest) (w * i) w))
-          (λ i l. ap dec (array-next x xs rest i (size x (List·Memᴰ·head refl))))
-          ∙ array-back dec xs rest (λ y m. size y (List·Memᴰ·tail m)) (λ y m. back y (List·Memᴰ·tail m)) in
+      upto-same (length xs) (λ i. dec (cut (concat-map enc (x ∷ xs) ++ rest) (w * suc i) w)) (λ i. dec (cut (concat-map enc xs ++ rest) (w * i) w))
+      (λ i l. ap dec (array-next x xs rest i (size x (List·Memᴰ·head refl))))
+      ∙ array-back dec xs rest (λ y m. size y (List·Memᴰ·tail m)) (λ y m. back y (List·Memᴰ·tail m)) in
       λ k. first k ∷ others k

@@ -52,6 +52,25 @@ module _ (kind format position : ℕ) (content : List ℕ) (short : length conte
       ap number (cut-body 0 1 (omega arith) ∙ cut-first (le 1 kind) (le 1 format ++ (le 2 position ++ pad 504 content)) 1 (le-length 1 kind))
       ∙ number-le 1 kind (omega arith)
 
+  pub format-of : format < 256 → field (make-block kind format position content) 1 1 ≡ format
+  unfolding field
+  format-of h =
+      ap number
+      (cut-body 1 1 (omega arith)
+      ∙ cut-past (le 1 kind) (le 1 format ++ (le 2 position ++ pad 504 content)) 1 1 1 (le-length 1 kind) (omega arith)
+      ∙ cut-first (le 1 format) (le 2 position ++ pad 504 content) 1 (le-length 1 format))
+      ∙ number-le 1 format (omega arith)
+
+  pub position-of : position < 65536 → field (make-block kind format position content) 2 2 ≡ position
+  unfolding field
+  position-of h =
+      ap number
+      (cut-body 2 2 (omega arith)
+      ∙ cut-past (le 1 kind) (le 1 format ++ (le 2 position ++ pad 504 content)) 1 2 2 (le-length 1 kind) (omega arith)
+      ∙ cut-past (le 1 format) (le 2 position ++ pad 504 content) 1 1 2 (le-length 1 format) (omega arith)
+      ∙ cut-first (le 2 position) (pad 504 content) 2 (le-length 2 position))
+      ∙ number-le 2 position (omega arith)
+
 -- ---- blocks one after the other
 
 pub block-first : (b rest : List ℕ) → length b ≡ 512 → block-at (b ++ rest) 0 ≡ b
@@ -79,7 +98,7 @@ same-blocks zero a b p q h = none a (omega arith) ∙ sym (none b (omega arith))
 same-blocks (suc n) a b p q h =
     let first : take 512 a ≡ take 512 b = h 0 (omega arith) in
     let rest : drop 512 a ≡ drop 512 b =
-        same-blocks n (drop 512 a) (drop 512 b) (length-drop 512 a ∙ omega arith) (length-drop 512 b ∙ omega arith) (λ k l. later a k ∙ h (suc k) (omega arith) ∙ sym (later b k)) in
+    same-blocks n (drop 512 a) (drop 512 b) (length-drop 512 a ∙ omega arith) (length-drop 512 b ∙ omega arith) (λ k l. later a k ∙ h (suc k) (omega arith) ∙ sym (later b k)) in
     sym (lib.ListN.take-append-drop 512 a) ∙ ap₂ _++_ first rest ∙ lib.ListN.take-append-drop 512 b
   where
     later : (l : List ℕ) (k : ℕ) → take 512 (drop (512 * k) (drop 512 l)) ≡ take 512 (drop (512 * suc k) l)

@@ -5,7 +5,8 @@ use mathlib.Core.Path.{_≡_, refl, sym, ap, _∙_, subst}
 use mathlib.Core.Bool.{Bool, true, false, _&&_, not}
 use mathlib.Core.List.{List, [], _∷_, _++_}
 use native.Mathlib.Omega.{arith}
-use lib.ListN.{length}
+use lib.ListN.{length, take, drop, length-append, length-drop}
+use lib.Seq.{take-at, drop-at}
 use lib.Dec.{leb, eqb}
 use borrow.Author.Tests.{eqb-true, eq-eqb, le-leb}
 use Rattle.numbers.specs.declared.Controller.{Controller}
@@ -177,49 +178,54 @@ unfolding write-call step
 write-leaves-good img job point v c out bytes =
     one-step (eqb (length c) 8 && one-block out) img out _
     (λ l e g.
-    let q = bound (write (decode img) (key job point) v (map counter c)) _ e in
-    (q .0 .state,
+    let q = bound (write (decode img) (key job point) v (map counter c)) _ e in (
+      q .0 .state,
       stays-good (decode img) (writes (key job point) v (map counter c)) (q .0 .state) g bytes (ap (λ (a : Answer Done). a >>= λ d. accepted (d .state)) (q .1)),
-      ap (λ (x : Left). x .image) (same-accepted (record { image = encode (q .0 .state); out = encode-outgoing (q .0 .message); count = 0 }) l (q .2))))
+      ap (λ (x : Left). x .image) (same-accepted (record { image = encode (q .0 .state); out = encode-outgoing (q .0 .message); count = 0 }) l (q .2)),
+    ))
 
 pub delete-leaves-good : (img : List ℕ) (job point : ℕ) (c out : List ℕ) → LeavesGood (delete-call img job point c out)
 unfolding delete-call step
 delete-leaves-good img job point c out =
     one-step (eqb (length c) 8 && one-block out) img out _
     (λ l e g.
-    let q = bound (delete (decode img) (key job point) (map counter c)) _ e in
-    (q .0 .state,
+    let q = bound (delete (decode img) (key job point) (map counter c)) _ e in (
+      q .0 .state,
       stays-good (decode img) (deletes (key job point) (map counter c)) (q .0 .state) g tt (ap (λ (a : Answer Done). a >>= λ d. accepted (d .state)) (q .1)),
-      ap (λ (x : Left). x .image) (same-accepted (record { image = encode (q .0 .state); out = encode-outgoing (q .0 .message); count = 0 }) l (q .2))))
+      ap (λ (x : Left). x .image) (same-accepted (record { image = encode (q .0 .state); out = encode-outgoing (q .0 .message); count = 0 }) l (q .2)),
+    ))
 
 pub take-in-leaves-good : (img message : List ℕ) → LeavesGood (take-in-call img message)
 unfolding take-in-call step
 take-in-leaves-good img message =
     one-step (one-block message) img [] _
     (λ l e g.
-    let q = bound (take-in (decode img) (decode-outgoing message)) _ (message-passed message (laid-out-outgoing message) _ e) in
-    (q .0,
+    let q = bound (take-in (decode img) (decode-outgoing message)) _ (message-passed message (laid-out-outgoing message) _ e) in (
+      q .0,
       stays-good (decode img) (takes-in (decode-outgoing message)) (q .0) g tt (q .1),
-      ap (λ (x : Left). x .image) (same-accepted (record { image = encode (q .0); out = []; count = 0 }) l (q .2))))
+      ap (λ (x : Left). x .image) (same-accepted (record { image = encode (q .0); out = []; count = 0 }) l (q .2)),
+    ))
 
 pub repair-leaves-good : (img message : List ℕ) → LeavesGood (repair-call img message)
 unfolding repair-call step
 repair-leaves-good img message =
     one-step (whole-reply message) img [] _
     (λ l e g.
-    let q = bound (repair (decode img) (decode-reply message)) _ (message-passed message (laid-out-reply message) _ e) in
-    (q .0,
+    let q = bound (repair (decode img) (decode-reply message)) _ (message-passed message (laid-out-reply message) _ e) in (
+      q .0,
       stays-good (decode img) (repairs (decode-reply message)) (q .0) g tt (q .1),
-      ap (λ (x : Left). x .image) (same-accepted (record { image = encode (q .0); out = []; count = 0 }) l (q .2))))
+      ap (λ (x : Left). x .image) (same-accepted (record { image = encode (q .0); out = []; count = 0 }) l (q .2)),
+    ))
 
 pub strip-pass-leaves-good : (img : List ℕ) → LeavesGood (strip-pass-call img)
 unfolding strip-pass-call step
 strip-pass-leaves-good img =
     one-step true img [] _
-    (λ l e g.
-    (strip-pass (decode img) .state,
+    (λ l e g. (
+      strip-pass (decode img) .state,
       stays-good (decode img) strips (strip-pass (decode img) .state) g tt refl,
-      ap (λ (x : Left). x .image) (same-accepted (record { image = encode (strip-pass (decode img) .state); out = []; count = strip-pass (decode img) .count }) l e)))
+      ap (λ (x : Left). x .image) (same-accepted (record { image = encode (strip-pass (decode img) .state); out = []; count = strip-pass (decode img) .count }) l e),
+    ))
 
 -- ---- what a call writes passes refusals 3 and 4
 
@@ -309,6 +315,19 @@ ask-writes-fit img to out e =
     let a = bound (ask (decode img) (controller to)) _ (q .1) in
     subst (λ (b : List ℕ). FitAsk (decode img .table) b) (ap (λ (x : Left). x .out) (same-accepted _ (l .0) (a .2)) ∙ sym (l .3))
     (ask-fit (decode img .table) (a .0) (sends-ask (decode img) (controller to) (a .0) (good-facts (decode img) (q .0 .state)) (a .1)))
+
+-- "the rest keeps its bytes"
+pub over-length : (written out : List ℕ) → length written ≤ length out → length (over written out) ≡ length out
+unfolding over
+over-length written out h = simp (length-append, length-drop) (omega arith)
+
+pub over-first : (written out : List ℕ) → take (length written) (over written out) ≡ written
+unfolding over
+over-first written out = take-at written (drop (length written) out) (length written) refl
+
+pub over-rest : (written out : List ℕ) → drop (length written) (over written out) ≡ drop (length written) out
+unfolding over
+over-rest written out = drop-at written (drop (length written) out) (length written) refl
 
 -- the reply stands at the beginning of its buffer, and the rest of that is as it was
 pub record Replying (img message out : List ℕ) : Type 0 where

@@ -307,11 +307,11 @@ point-block-at position (p ∷ ps) rest S =
     let more = encode-points (position + 1) ps in
     let size : length b ≡ 512 = stored-length position p (S p (here refl)) in
     let first : decode-stored form-1 (block-at ((b ++ more) ++ rest) 0) ≡ p =
-        ap (decode-stored form-1) (ap (λ (l : List ℕ). block-at l 0) (append-assoc b more rest) ∙ block-first b (more ++ rest) size) ∙ stored-back position p (S p (here refl)) in
+    ap (decode-stored form-1) (ap (λ (l : List ℕ). block-at l 0) (append-assoc b more rest) ∙ block-first b (more ++ rest) size) ∙ stored-back position p (S p (here refl)) in
     let others : upto (length ps) (λ i. decode-stored form-1 (block-at ((b ++ more) ++ rest) (suc i))) ≡ ps =
-        upto-same (length ps) (λ i. decode-stored form-1 (block-at ((b ++ more) ++ rest) (suc i))) (λ i. decode-stored form-1 (block-at (more ++ rest) i))
-        (λ i l. ap (decode-stored form-1) (ap (λ (x : List ℕ). block-at x (suc i)) (append-assoc b more rest) ∙ block-next b (more ++ rest) i size))
-        ∙ point-block-at (position + 1) ps rest (λ q m. S q (there m)) in
+    upto-same (length ps) (λ i. decode-stored form-1 (block-at ((b ++ more) ++ rest) (suc i))) (λ i. decode-stored form-1 (block-at (more ++ rest) i))
+    (λ i l. ap (decode-stored form-1) (ap (λ (x : List ℕ). block-at x (suc i)) (append-assoc b more rest) ∙ block-next b (more ++ rest) i size))
+    ∙ point-block-at (position + 1) ps rest (λ q m. S q (there m)) in
     λ k. first k ∷ others k
 
 -- a block of zeros ends them
@@ -350,8 +350,8 @@ points-back position (suc m) (p ∷ ps) S h =
     let first : block-at ((b ++ more) ++ rest) 0 ≡ b = ap (λ (l : List ℕ). block-at l 0) (append-assoc b more rest) ∙ block-first b (more ++ rest) size in
     let same-rest : rest ≡ zeros (512 * (m - length ps)) = ap (λ (n : ℕ). zeros (512 * n)) (fewer m (length ps)) in
     let others : upto m (λ i. block-at ((b ++ more) ++ rest) (suc i)) ≡ upto m (λ i. block-at (more ++ zeros (512 * (m - length ps))) i) =
-        upto-same m (λ i. block-at ((b ++ more) ++ rest) (suc i)) (λ i. block-at (more ++ zeros (512 * (m - length ps))) i)
-        (λ i l. ap (λ (x : List ℕ). block-at x (suc i)) (append-assoc b more rest) ∙ block-next b (more ++ rest) i size ∙ ap (λ (x : List ℕ). block-at (more ++ x) i) same-rest) in
+    upto-same m (λ i. block-at ((b ++ more) ++ rest) (suc i)) (λ i. block-at (more ++ zeros (512 * (m - length ps))) i)
+    (λ i l. ap (λ (x : List ℕ). block-at x (suc i)) (append-assoc b more rest) ∙ block-next b (more ++ rest) i size ∙ ap (λ (x : List ℕ). block-at (more ++ x) i) same-rest) in
     let known : eqb (field b 0 1) 0 ≡ false = ne-eqb (field b 0 1) 0 (λ e. omega (arith, e, stored-kind position p (S p (here refl)))) in
     let later = upto m (λ i. block-at ((b ++ more) ++ rest) (suc i)) in
     ap (map (decode-stored form-1))

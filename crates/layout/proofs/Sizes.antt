@@ -182,11 +182,11 @@ ask-sized t a e =
 pub reply-sized : (t : CrewTable) (r : Reply) → reply-formed t r ≡ true → ReplySized r
 reply-sized t r e =
     let bs =
-        is-controller (r .sender) ∷ is-controller (r .addressee) ∷ clock-formed t (r .sender) (r .clock)
-        ∷ all? (λ p. point-formed t (p .key) (p .object)) (r .points)
-        ∷ all? (λ p. covers-all (fill-context t (p .key .job) (r .clock) (p .object .context)) (p .object .versions)) (r .points)
-        ∷ Rattle.numbers.specs.Words.ascends? Rattle.meaning.specs.State.stored-before (r .points)
-        ∷ dots-agree (Rattle.meaning.specs.State.dots-of (r .points)) (Rattle.meaning.specs.State.dots-of (r .points)) ∷ [] in
+    is-controller (r .sender) ∷ is-controller (r .addressee) ∷ clock-formed t (r .sender) (r .clock)
+    ∷ all? (λ p. point-formed t (p .key) (p .object)) (r .points)
+    ∷ all? (λ p. covers-all (fill-context t (p .key .job) (r .clock) (p .object .context)) (p .object .versions)) (r .points)
+    ∷ Rattle.numbers.specs.Words.ascends? Rattle.meaning.specs.State.stored-before (r .points)
+    ∷ dots-agree (Rattle.meaning.specs.State.dots-of (r .points)) (Rattle.meaning.specs.State.dots-of (r .points)) ∷ [] in
     let u : every bs ≡ true = unfold reply-formed in e in
     record {
       small = (controller-sized (r .sender) (clause bs u 0), controller-sized (r .addressee) (clause bs u 1));

@@ -3,9 +3,12 @@ use Prim.Native.Nat.{ℕ}
 use mathlib.Core.Path.{_≡_, refl}
 use mathlib.Core.Bool.{Bool, true}
 use mathlib.Core.List.{List, [], _∷_, _++_}
+use lib.ListN.{drop}
 use Rattle.numbers.specs.declared.Key.{Key}
 use Rattle.numbers.specs.Numbers.{controller}
 use Rattle.numbers.specs.Key.{key}
+use Rattle.refusal.specs.declared.Verdict.the-variants.{Accepted, Refused}
+use Rattle.refusal.specs.declared.Refusal.the-variants.{WrongLength, ImageNotGood, WrongCheck, IllFormed}
 use Rattle.refusal.specs.Refusal.{Answer, refused, accepted, _>>=_}
 use Rattle.block.specs.Fields.{le, number, field, zeros, pad}
 use Rattle.block.specs.Check.{sums-from, sums, seal, sealed}
@@ -107,7 +110,6 @@ image-repaired =
     ((0x39 ∷ 0x03 ∷ 0xa8 ∷ 0x2c ∷ []) ++
     zeros 32256))))))))))))))))
 
-
 -- ---- the same run by the definitions: controller 1 writes point 7, deletes it, and writes an empty value to point 300; controller 2 takes
 -- in the deletion and the last write, asks, and repairs
 
@@ -195,3 +197,18 @@ asked-by-call = refl
 repaired-by-call : repair-call image-of-two reply-of-one .image ≡ image-repaired
 unfolding bytes
 repaired-by-call = refl
+
+-- ---- the order of refusals 1 to 4
+
+abbrev damaged : List ℕ
+damaged = (0x05 ∷ []) ++ drop 1 first-message
+
+-- a short image is refused for its length, though it is not good either; one of zeros for what it is; a message first for its check and
+-- then for its form: 512 zero bytes have a right check
+refusals-in-order :
+    (read-call (zeros 100) 0 7 (zeros 512) .verdict ≡ Refused WrongLength)
+    × (read-call (zeros 34304) 0 7 (zeros 512) .verdict ≡ Refused ImageNotGood)
+    × (take-in-call image-of-two damaged .verdict ≡ Refused WrongCheck)
+    × (take-in-call image-of-two (zeros 512) .verdict ≡ Refused IllFormed)
+unfolding bytes
+refusals-in-order = (refl, refl, refl, refl)
