@@ -3,3 +3,7 @@ pub mod Numbers
 pub mod Arrays
 pub mod Checked
 pub mod Content
+pub mod Halves
+pub mod Summing
+pub mod Copies
+pub mod Scans

@@ -26,7 +26,7 @@ use Rattle.meaning.specs.State.{Stored, Listed, Watermark, State}
 use Rattle.meaning.specs.Settle.{most-points, most-listed}
 use Rattle.layout.specs.PointBlock.{form-1, unsent, encode-point, encode-stored, decode-stored}
 use Rattle.layout.specs.Clocks.{encode-row, decode-row, encode-clock, decode-clock}
-use Rattle.layout.specs.Image.{image-length, encode-marks, decode-marks, encode-head, encode-entry, decode-entry, encode-dots, decode-dots, encode-points, encode, until-zero, decode}
+use Rattle.layout.specs.Image.{image-length, encode-marks, decode-marks, Head, head-of, encode-head, decode-head, encode-entry, decode-entry, encode-dots, decode-dots, encode-points, encode, until-zero, decode}
 use Rattle.layout.proofs.PointBack.{field-is, PointSized, point-block-length, point-block-sealed, point-block-kind, point-back}
 
 -- ---- arrays that fill their part
@@ -188,62 +188,62 @@ module _ (position : ℕ) (ls : List Listed) (S : DotsSized ls) where
 
 -- ---- the head
 
-pub record HeadSized (s : State) : Type 0 where
-  pub own : s .own .0 < 256
-  pub table-eight : length (s .table) ≡ 8
-  pub table-bytes : (b : ℕ) → b ∈ s .table → b < 256
-  pub clock : ClockSized (s .clock)
-  pub marks : MarksSized (s .watermark)
+pub record HeadSized (h : Head) : Type 0 where
+  pub own : h .own .0 < 256
+  pub table-eight : length (h .table) ≡ 8
+  pub table-bytes : (b : ℕ) → b ∈ h .table → b < 256
+  pub clock : ClockSized (h .clock)
+  pub marks : MarksSized (h .watermark)
 
-module _ (s : State) (S : HeadSized s) where
+module _ (h : Head) (S : HeadSized h) where
   abbrev table-part : List ℕ
-  table-part = concat-map (le 1) (s .table)
+  table-part = concat-map (le 1) (h .table)
 
   abbrev from-clock : List ℕ
-  from-clock = encode-clock (s .clock) ++ encode-marks (s .watermark)
+  from-clock = encode-clock (h .clock) ++ encode-marks (h .watermark)
 
   abbrev head-content : List ℕ
-  head-content = le 1 (s .own .0) ++ (le 3 0 ++ (table-part ++ from-clock))
+  head-content = le 1 (h .own .0) ++ (le 3 0 ++ (table-part ++ from-clock))
 
   table-length : length table-part ≡ 8
-  table-length = array-length 1 (le 1) (s .table) (λ x m. le-length 1 x) ∙ omega (arith, S .table-eight)
+  table-length = array-length 1 (le 1) (h .table) (λ x m. le-length 1 x) ∙ omega (arith, S .table-eight)
 
   head-content-length : length head-content ≡ 364
   head-content-length =
-      simp (length-append, le-length, table-length, clock-length (s .clock) (S .clock .eight), marks-length (s .watermark) (S .marks)) (omega arith)
+      simp (length-append, le-length, table-length, clock-length (h .clock) (S .clock .eight), marks-length (h .watermark) (S .marks)) (omega arith)
 
   head-short : length head-content ≤ 504
   head-short = omega (arith, head-content-length)
 
-  pub head-length : length (encode-head s) ≡ 512
+  pub head-length : length (encode-head h) ≡ 512
   unfolding encode-head
   head-length = make-block-length 1 1 0 head-content head-short
 
-  in-head : (o n : ℕ) → 4 ≤ o → o + n ≤ 368 → cut (encode-head s) o n ≡ cut head-content (o - 4) n
+  in-head : (o n : ℕ) → 4 ≤ o → o + n ≤ 368 → cut (encode-head h) o n ≡ cut head-content (o - 4) n
   unfolding encode-head
-  in-head o n h l = cut-content 1 1 0 head-content head-short o n h (omega (arith, head-content-length))
+  in-head o n g l = cut-content 1 1 0 head-content head-short o n g (omega (arith, head-content-length))
 
-  from-8 : (o n : ℕ) → 8 ≤ o → o + n ≤ 368 → cut (encode-head s) o n ≡ cut (table-part ++ from-clock) (o - 8) n
-  from-8 o n h l =
+  from-8 : (o n : ℕ) → 8 ≤ o → o + n ≤ 368 → cut (encode-head h) o n ≡ cut (table-part ++ from-clock) (o - 8) n
+  from-8 o n g l =
       in-head o n (omega arith) l
-      ∙ cut-past (le 1 (s .own .0)) (le 3 0 ++ (table-part ++ from-clock)) 1 (o - 4) n (le-length 1 (s .own .0)) (omega arith)
+      ∙ cut-past (le 1 (h .own .0)) (le 3 0 ++ (table-part ++ from-clock)) 1 (o - 4) n (le-length 1 (h .own .0)) (omega arith)
       ∙ cut-past (le 3 0) (table-part ++ from-clock) 3 (o - 4 - 1) n (le-length 3 0) (omega arith)
       ∙ ap (λ (i : ℕ). cut (table-part ++ from-clock) i n) there
     where
       there : o - 4 - 1 - 3 ≡ o - 8
       there = omega arith
 
-  own-at : field (encode-head s) 4 1 ≡ s .own .0
+  own-at : field (encode-head h) 4 1 ≡ h .own .0
   own-at =
-      field-is (encode-head s) 4 1 (s .own .0) (in-head 4 1 (omega arith) (omega arith) ∙ cut-first (le 1 (s .own .0)) (le 3 0 ++ (table-part ++ from-clock)) 1 (le-length 1 (s .own .0))) (S .own)
+      field-is (encode-head h) 4 1 (h .own .0) (in-head 4 1 (omega arith) (omega arith) ∙ cut-first (le 1 (h .own .0)) (le 3 0 ++ (table-part ++ from-clock)) 1 (le-length 1 (h .own .0))) (S .own)
 
-  table-at : upto 8 (λ i. field (encode-head s) (8 + i) 1) ≡ s .table
+  table-at : upto 8 (λ i. field (encode-head h) (8 + i) 1) ≡ h .table
   table-at =
-      upto-same 8 (λ i. field (encode-head s) (8 + i) 1) (λ i. number (cut table-part (1 * i) 1)) one
-      ∙ whole-array 1 8 (le 1) number (s .table) (λ x m. le-length 1 x) (λ x m. number-le 1 x (S .table-bytes x m)) (S .table-eight)
+      upto-same 8 (λ i. field (encode-head h) (8 + i) 1) (λ i. number (cut table-part (1 * i) 1)) one
+      ∙ whole-array 1 8 (le 1) number (h .table) (λ x m. le-length 1 x) (λ x m. number-le 1 x (S .table-bytes x m)) (S .table-eight)
     where
-      one : (i : ℕ) → i < 8 → field (encode-head s) (8 + i) 1 ≡ number (cut table-part (1 * i) 1)
-      one i h =
+      one : (i : ℕ) → i < 8 → field (encode-head h) (8 + i) 1 ≡ number (cut table-part (1 * i) 1)
+      one i g =
           unfold field in
           (ap number
           (from-8 (8 + i) 1 (omega arith) (omega arith)
@@ -253,18 +253,28 @@ module _ (s : State) (S : HeadSized s) where
           there : 8 + i - 8 ≡ 1 * i
           there = omega arith
 
-  clock-at : cut (encode-head s) 16 96 ≡ encode-clock (s .clock)
+  clock-at : cut (encode-head h) 16 96 ≡ encode-clock (h .clock)
   clock-at =
       from-8 16 96 (omega arith) (omega arith)
       ∙ cut-past table-part from-clock 8 8 96 table-length (omega arith)
-      ∙ cut-first (encode-clock (s .clock)) (encode-marks (s .watermark)) 96 (clock-length (s .clock) (S .clock .eight))
+      ∙ cut-first (encode-clock (h .clock)) (encode-marks (h .watermark)) 96 (clock-length (h .clock) (S .clock .eight))
 
-  marks-at : cut (encode-head s) 112 256 ≡ encode-marks (s .watermark)
+  marks-at : cut (encode-head h) 112 256 ≡ encode-marks (h .watermark)
   marks-at =
       from-8 112 256 (omega arith) (omega arith)
       ∙ cut-past table-part from-clock 8 104 256 table-length (omega arith)
-      ∙ cut-past (encode-clock (s .clock)) (encode-marks (s .watermark)) 96 96 256 (clock-length (s .clock) (S .clock .eight)) (omega arith)
-      ∙ cut-whole (encode-marks (s .watermark)) 256 (marks-length (s .watermark) (S .marks))
+      ∙ cut-past (encode-clock (h .clock)) (encode-marks (h .watermark)) 96 96 256 (clock-length (h .clock) (S .clock .eight)) (omega arith)
+      ∙ cut-whole (encode-marks (h .watermark)) 256 (marks-length (h .watermark) (S .marks))
+
+  pub head-back : decode-head (encode-head h) ≡ h
+  unfolding decode-head
+  head-back = λ i.
+      record {
+        own = controller (own-at i);
+        table = table-at i;
+        clock = (ap decode-clock clock-at ∙ clock-back (h .clock) (S .clock)) i;
+        watermark = (ap decode-marks marks-at ∙ marks-back (h .watermark) (S .marks)) i;
+      }
 
 -- ---- the points
 
@@ -364,7 +374,7 @@ points-back position (suc m) (p ∷ ps) S h =
 -- ---- the image
 
 pub record Sized (s : State) : Type 0 where
-  pub head : HeadSized s
+  pub head : HeadSized (head-of s)
   pub own : DotsSized (s .own-dots)
   pub foreign : DotsSized (s .foreign-dots)
   pub few : length (s .points) ≤ most-points
@@ -377,16 +387,16 @@ module _ (s : State) (S : Sized s) where
   pub image-size : length (encode s) ≡ image-length
   unfolding encode
   image-size =
-      simp (length-append, length-replicate, head-length s (S .head), dots-length 1 (s .own-dots) (S .own), dots-length 2 (s .foreign-dots) (S .foreign), points-length 3 (s .points) (S .points))
+      simp (length-append, length-replicate, head-length (head-of s) (S .head), dots-length 1 (s .own-dots) (S .own), dots-length 2 (s .foreign-dots) (S .foreign), points-length 3 (s .points) (S .points))
       (omega (arith, S .few))
 
-  block-0 : block-at (encode s) 0 ≡ encode-head s
+  block-0 : block-at (encode s) 0 ≡ encode-head (head-of s)
   unfolding encode
-  block-0 = block-first (encode-head s) (encode-dots 1 (s .own-dots) ++ (encode-dots 2 (s .foreign-dots) ++ points-part)) (head-length s (S .head))
+  block-0 = block-first (encode-head (head-of s)) (encode-dots 1 (s .own-dots) ++ (encode-dots 2 (s .foreign-dots) ++ points-part)) (head-length (head-of s) (S .head))
 
   after-head : (k : ℕ) → block-at (encode s) (suc k) ≡ block-at (encode-dots 1 (s .own-dots) ++ (encode-dots 2 (s .foreign-dots) ++ points-part)) k
   unfolding encode
-  after-head k = block-next (encode-head s) (encode-dots 1 (s .own-dots) ++ (encode-dots 2 (s .foreign-dots) ++ points-part)) k (head-length s (S .head))
+  after-head k = block-next (encode-head (head-of s)) (encode-dots 1 (s .own-dots) ++ (encode-dots 2 (s .foreign-dots) ++ points-part)) k (head-length (head-of s) (S .head))
 
   after-own : (k : ℕ) → block-at (encode s) (suc (suc k)) ≡ block-at (encode-dots 2 (s .foreign-dots) ++ points-part) k
   after-own k = after-head (suc k) ∙ block-next (encode-dots 1 (s .own-dots)) (encode-dots 2 (s .foreign-dots) ++ points-part) k (dots-length 1 (s .own-dots) (S .own))
@@ -409,14 +419,17 @@ module _ (s : State) (S : Sized s) where
       ap (λ (bs : List (List ℕ)). map (decode-stored form-1) (until-zero bs)) (upto-same most-points (λ i. block-at (encode s) (3 + i)) (λ i. block-at points-part i) (λ i l. block-3 i))
       ∙ points-back 3 most-points (s .points) (S .points) (S .few)
 
+  head-at : decode-head (block-at (encode s) 0) ≡ head-of s
+  head-at = ap decode-head block-0 ∙ head-back (head-of s) (S .head)
+
   pub decode-encode : decode (encode s) ≡ s
   unfolding decode
   decode-encode = λ i.
       record {
-        own = controller ((ap (λ (b : List ℕ). field b 4 1) block-0 ∙ own-at s (S .head)) i);
-        table = (ap (λ (b : List ℕ). upto 8 (λ n. field b (8 + n) 1)) block-0 ∙ table-at s (S .head)) i;
-        clock = (ap (λ (b : List ℕ). decode-clock (cut b 16 96)) block-0 ∙ ap decode-clock (clock-at s (S .head)) ∙ clock-back (s .clock) (S .head .clock)) i;
-        watermark = (ap (λ (b : List ℕ). decode-marks (cut b 112 256)) block-0 ∙ ap decode-marks (marks-at s (S .head)) ∙ marks-back (s .watermark) (S .head .marks)) i;
+        own = head-at i .own;
+        table = head-at i .table;
+        clock = head-at i .clock;
+        watermark = head-at i .watermark;
         own-dots = (ap decode-dots block-1 ∙ dots-back 1 (s .own-dots) (S .own)) i;
         foreign-dots = (ap decode-dots block-2 ∙ dots-back 2 (s .foreign-dots) (S .foreign)) i;
         points = points-at i;

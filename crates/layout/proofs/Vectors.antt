@@ -20,14 +20,14 @@ use Rattle.meaning.specs.Exchange.{take-in, ask, reply, repair}
 use Rattle.meaning.proofs.Table.{everything, one-and-two, text, up-to}
 use Rattle.layout.specs.PointBlock.{encode-slot, decode-contents, decode-slot, encode-context, decode-context, encode-point, decode-point, encode-stored, decode-stored}
 use Rattle.layout.specs.Clocks.{encode-row, decode-row, encode-clock, decode-clock}
-use Rattle.layout.specs.Image.{encode-marks, decode-marks, encode-head, encode-entry, decode-entry, encode-dots, decode-dots, encode-points, encode, decode, goodImage}
+use Rattle.layout.specs.Image.{encode-marks, decode-marks, encode-head, decode-head, encode-entry, decode-entry, encode-dots, decode-dots, encode-points, encode, decode, goodImage}
 use Rattle.layout.specs.Messages.{checks-right, encode-outgoing, encode-reading, decode-outgoing, encode-greeting, encode-ask, decode-ask, encode-reply, decode-reply, laid-out-outgoing, laid-out-ask, laid-out-reply}
 use Rattle.layout.specs.Calls.{After, afterwards, whole-reply, on-image, with-message, start-call, read-call, write-call, delete-call, take-in-call, ask-call, over, reply-call, repair-call, strip-pass-call}
 use Rattle.layout.specs.Listing.{digits-of, decimal, said, version-line, first-line, listing, refused-line, printed}
 
 -- to unfold this is to compute with every definition
 unfoldable bytes : Unit {0}
-unfolding everything le number field pad seal sealed make-block block-at blocks encode-slot decode-contents decode-slot encode-context decode-context encode-point decode-point encode-stored decode-stored encode-row decode-row encode-clock decode-clock encode-marks decode-marks encode-head encode-entry decode-entry encode-dots decode-dots encode-points encode decode goodImage checks-right encode-outgoing encode-reading decode-outgoing encode-greeting encode-ask decode-ask encode-reply decode-reply laid-out-outgoing laid-out-ask laid-out-reply afterwards whole-reply on-image with-message start-call read-call write-call delete-call take-in-call ask-call over reply-call repair-call strip-pass-call digits-of decimal said version-line first-line listing refused-line printed
+unfolding everything le number field pad seal sealed make-block block-at blocks encode-slot decode-contents decode-slot encode-context decode-context encode-point decode-point encode-stored decode-stored encode-row decode-row encode-clock decode-clock encode-marks decode-marks encode-head decode-head encode-entry decode-entry encode-dots decode-dots encode-points encode decode goodImage checks-right encode-outgoing encode-reading decode-outgoing encode-greeting encode-ask decode-ask encode-reply decode-reply laid-out-outgoing laid-out-ask laid-out-reply afterwards whole-reply on-image with-message start-call read-call write-call delete-call take-in-call ask-call over reply-call repair-call strip-pass-call digits-of decimal said version-line first-line listing refused-line printed
 bytes = tt
 
 -- ---- what the second program wrote

@@ -5,12 +5,15 @@ use mathlib.Core.Bool.{Bool, true, false, _&&_, not}
 use mathlib.Core.List.{List, [], _∷_, _++_}
 use lib.ListN.{length, take}
 use lib.Dec.{eqb}
+use Rattle.numbers.specs.declared.Controller.{Controller}
 use Rattle.numbers.specs.Words.{if_then_else_, map, concat-map, same-list}
 use Rattle.numbers.specs.Numbers.{controller}
 use Rattle.numbers.specs.Dot.{dot}
 use Rattle.numbers.specs.Key.{key}
 use Rattle.block.specs.Fields.{le, cut, field, zeros, upto}
 use Rattle.block.specs.Block.{make-block, block-at}
+use Rattle.meaning.specs.CrewTable.{CrewTable}
+use Rattle.meaning.specs.Clock.{Clock}
 use Rattle.meaning.specs.State.{Stored, Listed, Watermark, State}
 use Rattle.meaning.specs.Settle.{most-points, most-listed}
 use Rattle.meaning.specs.Good.{goodState}
@@ -29,14 +32,33 @@ encode-marks w = concat-map (concat-map (le 4)) w
 unfoldable pub decode-marks : List ℕ → Watermark
 decode-marks b = upto 8 (λ m. upto 8 (λ n. field (cut b (32 * m) 32) (4 * n) 4))
 
-unfoldable pub encode-head : State → List ℕ
-encode-head s =
+-- what the head holds
+pub record Head : Type 0 where
+  pub own : Controller
+  pub table : CrewTable
+  pub clock : Clock
+  pub watermark : Watermark
+
+abbrev pub head-of : State → Head
+head-of s = record { own = s .own; table = s .table; clock = s .clock; watermark = s .watermark }
+
+unfoldable pub encode-head : Head → List ℕ
+encode-head h =
     make-block 1 1 0
-    (le 1 (s .own .0)
+    (le 1 (h .own .0)
     ++ (le 3 0
-    ++ (concat-map (le 1) (s .table)
-    ++ (encode-clock (s .clock)
-    ++ encode-marks (s .watermark)))))
+    ++ (concat-map (le 1) (h .table)
+    ++ (encode-clock (h .clock)
+    ++ encode-marks (h .watermark)))))
+
+unfoldable pub decode-head : List ℕ → Head
+decode-head b =
+    record {
+      own = controller (field b 4 1);
+      table = upto 8 (λ i. field b (8 + i) 1);
+      clock = decode-clock (cut b 16 96);
+      watermark = decode-marks (cut b 112 256);
+    }
 
 -- ---- "Kind 2, dots: 4-5 count; 8 on, entries of 8: controller, job, point (2), counter (4)"
 
@@ -62,7 +84,7 @@ encode-points position (p ∷ ps) = encode-stored form-1 position p ++ encode-po
 -- "then blocks of zeros (all 512 bytes zero)"
 unfoldable pub encode : State → List ℕ
 encode s =
-    encode-head s
+    encode-head (head-of s)
     ++ (encode-dots 1 (s .own-dots)
     ++ (encode-dots 2 (s .foreign-dots)
     ++ (encode-points 3 (s .points)
@@ -75,12 +97,12 @@ until-zero (b ∷ bs) = let rest = until-zero bs in if eqb (field b 0 1) 0 then 
 
 unfoldable pub decode : List ℕ → State
 decode img =
-    let head = block-at img 0 in
+    let head = decode-head (block-at img 0) in
     record {
-      own = controller (field head 4 1);
-      table = upto 8 (λ i. field head (8 + i) 1);
-      clock = decode-clock (cut head 16 96);
-      watermark = decode-marks (cut head 112 256);
+      own = head .own;
+      table = head .table;
+      clock = head .clock;
+      watermark = head .watermark;
       own-dots = decode-dots (block-at img 1);
       foreign-dots = decode-dots (block-at img 2);
       points = map (decode-stored form-1) (until-zero (upto most-points (λ i. block-at img (3 + i))));
