@@ -8,13 +8,10 @@ use lib.ListN.{getD, length}
 use lib.Dec.{leb, eqb}
 use borrow.Author.Tests.{leb-true, le-leb, eqb-true, eq-eqb}
 use Rattle.numbers.specs.declared.Controller.{Controller}
+pub use Rattle.numbers.specs.Numbers.{Crew}
 use Rattle.numbers.specs.Numbers.{controller, is-controller, same-controller, each, controllers}
 use Rattle.numbers.proofs.Tests.{and-left, and-right, and-both, _∈_, here, there}
 use Rattle.numbers.proofs.Lists.{all-in}
-
--- a controller number
-abbrev pub Crew : Controller → Type 0
-Crew n = (1 ≤ n .0) × (n .0 ≤ 8)
 
 pub crew-is : (n : Controller) → is-controller n ≡ true → Crew n
 unfolding is-controller

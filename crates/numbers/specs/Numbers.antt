@@ -1,6 +1,6 @@
 -- Controller numbers, counters and point numbers, and their ranges. Assumes nothing.
 -- "Sizes: controllers 1..8; jobs 0..7; points 1..65535 within a job; .. counters 1..4,294,967,295."
-use Prim.Native.Nat.{ℕ}
+use Prim.Native.Nat.{ℕ, _≤_}
 use mathlib.Core.Bool.{Bool, _&&_}
 use mathlib.Core.List.{List, [], _∷_}
 use lib.Dec.{leb, ltb, eqb}
@@ -23,6 +23,10 @@ last-counter = 4294967295
 
 unfoldable pub is-controller : Controller → Bool
 is-controller n = leb 1 (n .0) && leb (n .0) 8
+
+-- the same as a fact
+abbrev pub Crew : Controller → Type 0
+Crew n = (1 ≤ n .0) × (n .0 ≤ 8)
 
 unfoldable pub is-counter : Counter → Bool
 is-counter c = leb 1 (c .0) && leb (c .0) last-counter

@@ -1,0 +1,1 @@
+// A block of listed dots, read and edited in the lent bytes.

@@ -1,0 +1,1 @@
+// A point block, stored or sent, read and edited in the lent bytes.
