@@ -3,6 +3,7 @@ pub mod Numbers
 pub mod Arrays
 pub mod Checked
 pub mod Content
+pub mod Same
 pub mod Halves
 pub mod Summing
 pub mod Copies

@@ -15,6 +15,7 @@ use Rattle.numbers.specs.Words.{map, same-list}
 use Rattle.numbers.specs.Numbers.{controller, counter, is-controller}
 use Rattle.numbers.specs.Key.{key}
 use Rattle.numbers.proofs.Tests.{and-left, and-right, and-both}
+use Rattle.block.proofs.Same.{same-of, of-same}
 use Rattle.refusal.specs.declared.Verdict.{Verdict}
 use Rattle.refusal.specs.declared.Verdict.the-variants.{Accepted, Refused}
 use Rattle.refusal.specs.declared.Refusal.{Refusal}
@@ -37,7 +38,7 @@ use Rattle.layout.specs.Image.{image-length, encode, decode, goodImage}
 use Rattle.layout.specs.Messages.{checks-right, encode-outgoing, decode-outgoing, encode-ask, decode-ask, encode-reply, decode-reply, laid-out-outgoing, laid-out-ask, laid-out-reply}
 use Rattle.layout.specs.Calls.{Left, After, afterwards, one-block, reply-room, whole-reply, whole-image, on-image, with-message, start-call, read-call, write-call, delete-call, take-in-call, ask-call, over, reply-call, repair-call, strip-pass-call}
 use Rattle.layout.proofs.ImageBack.{image-size, decode-encode}
-use Rattle.layout.proofs.MessagesBack.{same-list-of, of-same-list, outgoing-length, outgoing-back, outgoing-checked, outgoing-laid-out, ask-length, ask-back, ask-checked, ask-laid-out, reply-length, reply-back, reply-checked, reply-laid-out}
+use Rattle.layout.proofs.MessagesBack.{outgoing-length, outgoing-back, outgoing-checked, outgoing-laid-out, ask-length, ask-back, ask-checked, ask-laid-out, reply-length, reply-back, reply-checked, reply-laid-out}
 use Rattle.layout.proofs.Sizes.{good-sized, outgoing-sized, ask-sized, reply-sized}
 
 -- ---- good images
@@ -54,7 +55,7 @@ good-image img t =
     let first = and-left (eqb (length img) image-length && same-list (encode (decode img)) img) (goodState (decode img)) t in
     record {
       size = eqb-true (length img) image-length (and-left (eqb (length img) image-length) (same-list (encode (decode img)) img) first);
-      encoded = of-same-list (encode (decode img)) img (and-right (eqb (length img) image-length) (same-list (encode (decode img)) img) first);
+      encoded = of-same (encode (decode img)) img (and-right (eqb (length img) image-length) (same-list (encode (decode img)) img) first);
       state = and-right (eqb (length img) image-length && same-list (encode (decode img)) img) (goodState (decode img)) t;
     }
 
@@ -66,7 +67,7 @@ encode-good s g =
     and-both (eqb (length (encode s)) image-length && same-list (encode (decode (encode s))) (encode s)) (goodState (decode (encode s)))
     (and-both (eqb (length (encode s)) image-length) (same-list (encode (decode (encode s))) (encode s))
     (eq-eqb (length (encode s)) image-length (image-size s (good-sized s (good-facts s g))))
-    (same-list-of (encode (decode (encode s))) (encode s) (ap encode back)))
+    (same-of (encode (decode (encode s))) (encode s) (ap encode back)))
     (subst (λ (x : State). goodState x ≡ true) (sym back) g)
 
 -- ---- what an answer says of the buffers

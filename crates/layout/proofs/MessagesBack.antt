@@ -5,8 +5,6 @@ use mathlib.Core.Bool.{Bool, true, false, _&&_}
 use mathlib.Core.List.{List, [], _∷_, _++_, append-nil}
 use native.Mathlib.Omega.{arith}
 use lib.ListN.{length, take, length-append}
-use lib.Dec.{eqb}
-use borrow.Author.Tests.{eq-eqb}
 use Rattle.numbers.specs.declared.Controller.{Controller}
 use Rattle.numbers.specs.Words.{all?, same-list}
 use Rattle.numbers.specs.Numbers.{controller}
@@ -17,6 +15,7 @@ use Rattle.block.specs.Block.{make-block, block-at, blocks}
 use Rattle.block.proofs.Parts.{cut-past, cut-first, cut-whole}
 use Rattle.block.proofs.Numbers.{le-length}
 use Rattle.block.proofs.Arrays.{upto-same}
+use Rattle.block.proofs.Same.{same-of}
 use Rattle.block.proofs.Content.{make-block-length, make-block-sealed, cut-content, block-first, block-next}
 use Rattle.meaning.specs.Clock.{Clock}
 use Rattle.meaning.specs.State.{Stored}
@@ -27,23 +26,6 @@ use Rattle.layout.specs.Image.{encode-points}
 use Rattle.layout.specs.Messages.{checks-right, encode-outgoing, encode-reading, decode-outgoing, encode-greeting, encode-ask, decode-ask, encode-reply, decode-reply, laid-out-outgoing, laid-out-ask, laid-out-reply}
 use Rattle.layout.proofs.PointBack.{field-is, PointSized, point-block-length, point-block-sealed, point-back}
 use Rattle.layout.proofs.ImageBack.{ClockSized, clock-length, clock-back, AllSized, stored-length, stored-sealed, points-length, point-block-at}
-
--- ---- equal lists pass the test, and lists that pass it are equal
-
-pub same-list-of : (a b : List ℕ) → a ≡ b → same-list a b ≡ true
-same-list-of a b e = subst (λ (l : List ℕ). same-list a l ≡ true) e (itself a)
-  where
-    itself : (l : List ℕ) → same-list l l ≡ true
-    itself [] = refl
-    itself (x ∷ xs) = and-both (eqb x x) (same-list xs xs) (eq-eqb x x refl) (itself xs)
-
-pub of-same-list : (a b : List ℕ) → same-list a b ≡ true → a ≡ b
-of-same-list [] [] t = refl
-of-same-list [] (y ∷ ys) t = absurd (mathlib.Core.Bool.false≢true t)
-of-same-list (x ∷ xs) [] t = absurd (mathlib.Core.Bool.false≢true t)
-of-same-list (x ∷ xs) (y ∷ ys) t =
-    λ i. borrow.Author.Tests.eqb-true x y (Rattle.numbers.proofs.Tests.and-left (eqb x y) (same-list xs ys) t) i
-    ∷ of-same-list xs ys (Rattle.numbers.proofs.Tests.and-right (eqb x y) (same-list xs ys) t) i
 
 -- ---- the checks of blocks one after the other
 
@@ -92,7 +74,7 @@ module _ (m : Outgoing) (S : PointSized form-1 m) where
 
   pub outgoing-laid-out : laid-out-outgoing (encode-outgoing m) ≡ true
   unfolding laid-out-outgoing
-  outgoing-laid-out = same-list-of (encode-outgoing (decode-outgoing (encode-outgoing m))) (encode-outgoing m) (ap encode-outgoing outgoing-back)
+  outgoing-laid-out = same-of (encode-outgoing (decode-outgoing (encode-outgoing m))) (encode-outgoing m) (ap encode-outgoing outgoing-back)
 
   pub reading-length : length (encode-reading m) ≡ 512
   unfolding encode-reading
@@ -172,7 +154,7 @@ module _ (a : Ask) (S : AskSized a) where
 
   pub ask-laid-out : laid-out-ask (encode-ask a) ≡ true
   unfolding laid-out-ask
-  ask-laid-out = same-list-of (encode-ask (decode-ask (encode-ask a))) (encode-ask a) (ap encode-ask ask-back)
+  ask-laid-out = same-of (encode-ask (decode-ask (encode-ask a))) (encode-ask a) (ap encode-ask ask-back)
 
 -- ---- a whole reply
 
@@ -230,4 +212,4 @@ module _ (r : Reply) (S : ReplySized r) where
 
   pub reply-laid-out : laid-out-reply (encode-reply r) ≡ true
   unfolding laid-out-reply
-  reply-laid-out = same-list-of (encode-reply (decode-reply (encode-reply r))) (encode-reply r) (ap encode-reply reply-back)
+  reply-laid-out = same-of (encode-reply (decode-reply (encode-reply r))) (encode-reply r) (ap encode-reply reply-back)
