@@ -1,7 +1,8 @@
 -- Runs of equal parts: what was written one after the other is read back one by one. Assumes nothing.
 use Prim.Native.Nat.{ℕ, zero, suc, _+_, _*_, _-_, _≤_, _<_}
 use mathlib.Core.Path.{_≡_, refl, ap, ap₂, sym, _∙_, subst}
-use mathlib.Core.List.{List, [], _∷_, _++_, append-assoc, List·Memᴰ, List·Memᴰ·head, List·Memᴰ·tail}
+use mathlib.Core.List.{List, [], _∷_, _++_, append-assoc, List·Memᴰ, List·Memᴰ·head, List·Memᴰ·tail, List·Memᴰ·not-nil, List·Memᴰ·cases-cons}
+use mathlib.Core.Logic.{⊎-elim}
 use native.Mathlib.Nat.{mul-suc, mul-zero, le-of-suc-le-suc}
 use native.Mathlib.Omega.{arith}
 use lib.ListN.{length, take, drop, getD, length-append}
@@ -22,6 +23,12 @@ module _ {A : Type 0} where
   upto-at zero f d i l = absurd (omega arith)
   upto-at (suc n) f d zero l = refl
   upto-at (suc n) f d (suc i) l = upto-at n (λ j. f (suc j)) d i (le-of-suc-le-suc l)
+
+  -- a member of those below n is one of them
+  pub in-upto : (n : ℕ) (f : ℕ → A) {x : A} → List·Memᴰ x (upto n f) → (i : ℕ) × (i < n) × (x ≡ f i)
+  in-upto zero f m = absurd (List·Memᴰ·not-nil m)
+  in-upto (suc n) f m =
+      ⊎-elim (λ p. (0, omega arith, p)) (λ q. let r = in-upto n (λ j. f (suc j)) q in (suc (r .0), omega (arith, r .1), r .2)) (List·Memᴰ·cases-cons m)
 
   -- the first of those below n are those below m
   pub take-upto : (m n : ℕ) (f : ℕ → A) → m ≤ n → take m (upto n f) ≡ upto m f

@@ -5,8 +5,9 @@ use mathlib.Core.List.{List, [], _∷_, _++_, List·Memᴰ, List·Memᴰ·head, 
 use mathlib.Core.Logic.{⊎-elim}
 use native.Mathlib.Nat.{pow-suc, pow-zero}
 use native.Mathlib.Omega.{arith}
-use lib.ListN.{length}
-use Rattle.block.specs.Fields.{le, number}
+use lib.ListN.{length, take, drop}
+use Rattle.block.specs.Fields.{le, number, cut, field}
+use Rattle.block.proofs.Parts.{length-cut}
 
 abbrev pub Bytes : List ℕ → Type 0
 Bytes l = (b : ℕ) → List·Memᴰ b l → b < 256
@@ -41,3 +42,24 @@ le-number (b ∷ bs) h =
     let low : (b + 256 * number bs) % 256 ≡ b = omega arith in
     let high : (b + 256 * number bs) / 256 ≡ number bs = omega arith in
     rw (low, high, rest)
+
+-- ---- parts of bytes are bytes
+
+pub bytes-drop : (a : ℕ) (b : List ℕ) → Bytes b → Bytes (drop a b)
+bytes-drop zero b h = h
+bytes-drop (suc a) [] h = h
+bytes-drop (suc a) (x ∷ xs) h = bytes-drop a xs (λ y m. h y (List·Memᴰ·tail m))
+
+pub bytes-take : (n : ℕ) (b : List ℕ) → Bytes b → Bytes (take n b)
+bytes-take zero b h y m = absurd (List·Memᴰ·not-nil m)
+bytes-take (suc n) [] h y m = h y m
+bytes-take (suc n) (x ∷ xs) h y m =
+    ⊎-elim (λ e. h y (List·Memᴰ·head e)) (λ k. bytes-take n xs (λ z l. h z (List·Memᴰ·tail l)) y k) (List·Memᴰ·cases-cons m)
+
+pub bytes-cut : (b : List ℕ) (a n : ℕ) → Bytes b → Bytes (cut b a n)
+bytes-cut b a n h = bytes-take n (drop a b) (bytes-drop a b h)
+
+-- a field of bytes is as small as its bytes make it
+pub field-bound : (b : List ℕ) (o n : ℕ) → Bytes b → o + n ≤ length b → field b o n < 256 ^ n
+unfolding field
+field-bound b o n h l = subst (λ (m : ℕ). number (cut b o n) < 256 ^ m) (length-cut b o n l) (number-bound (cut b o n) (bytes-cut b o n h))

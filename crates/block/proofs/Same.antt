@@ -18,8 +18,8 @@ use Rattle.block.specs.Fields.{le, number, cut, field, zeros, pad, upto}
 use Rattle.block.specs.Check.{sums-from, sums, seal, sealed}
 use Rattle.block.specs.Block.{make-block}
 use Rattle.block.proofs.Parts.{length-cut, cut-cut, pad-length}
-use Rattle.block.proofs.Numbers.{Bytes, le-length, number-le, le-number}
-use Rattle.block.proofs.Arrays.{upto-same, upto-length, array-length}
+use Rattle.block.proofs.Numbers.{Bytes, bytes-cut, le-length, number-le, le-number}
+use Rattle.block.proofs.Arrays.{upto-same, upto-length, in-upto, array-length}
 use Rattle.block.proofs.Checked.{sums-bound, sums-of-body, seal-length, seal-sealed}
 
 -- ---- equal lists pass the test, and lists that pass it are equal
@@ -58,20 +58,6 @@ pub same-parts : (x y b : List ℕ) (n : ℕ) → length x ≡ n → length b �
 same-parts x y b n p q = same-append x y b (omega arith) ∙ ap (λ (m : ℕ). same-list x (take m b) && same-list y (drop m b)) p
 
 -- ---- fields
-
-pub bytes-drop : (a : ℕ) (b : List ℕ) → Bytes b → Bytes (drop a b)
-bytes-drop zero b h = h
-bytes-drop (suc a) [] h = h
-bytes-drop (suc a) (x ∷ xs) h = bytes-drop a xs (λ y m. h y (List·Memᴰ·tail m))
-
-pub bytes-take : (n : ℕ) (b : List ℕ) → Bytes b → Bytes (take n b)
-bytes-take zero b h y m = absurd (List·Memᴰ·not-nil m)
-bytes-take (suc n) [] h y m = h y m
-bytes-take (suc n) (x ∷ xs) h y m =
-    ⊎-elim (λ e. h y (List·Memᴰ·head e)) (λ k. bytes-take n xs (λ z l. h z (List·Memᴰ·tail l)) y k) (List·Memᴰ·cases-cons m)
-
-pub bytes-cut : (b : List ℕ) (a n : ℕ) → Bytes b → Bytes (cut b a n)
-bytes-cut b a n h = bytes-take n (drop a b) (bytes-drop a b h)
 
 -- a field that is written back as it was read is the same
 pub same-field : (b : List ℕ) (o n : ℕ) → Bytes b → o + n ≤ length b → same-list (le n (field b o n)) (cut b o n) ≡ true
@@ -129,11 +115,6 @@ same-array {A} w enc dec (suc n) b e size =
     sizes m c h =
         array-length w enc (upto m (λ i. dec (cut c (w * i) w))) (each m c h) ∙ ap (λ (k : ℕ). w * k) (upto-length m (λ i. dec (cut c (w * i) w)))
       where
-        in-upto : (k : ℕ) (f : ℕ → A) {x : A} → List·Memᴰ x (upto k f) → (i : ℕ) × (i < k) × (x ≡ f i)
-        in-upto zero f m = absurd (List·Memᴰ·not-nil m)
-        in-upto (suc k) f m =
-            ⊎-elim (λ p. (0, omega arith, p)) (λ q. let r = in-upto k (λ j. f (suc j)) q in (suc (r .0), omega (arith, r .1), r .2)) (List·Memᴰ·cases-cons m)
-
         each : (k : ℕ) (d : List ℕ) → length d ≡ w * k → (x : A) → List·Memᴰ x (upto k (λ i. dec (cut d (w * i) w))) → length (enc x) ≡ w
         each k d g x m =
             let q = in-upto k (λ i. dec (cut d (w * i) w)) m in

@@ -4,3 +4,4 @@ pub mod MessagesBack
 pub mod Sizes
 pub mod CallsGood
 pub mod Vectors
+pub mod Decoded
