@@ -1,1 +1,2 @@
 pub mod GoodParts
+pub mod LaidOut
