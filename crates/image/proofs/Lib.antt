@@ -1,2 +1,3 @@
 pub mod GoodParts
 pub mod LaidOut
+pub mod Counted
