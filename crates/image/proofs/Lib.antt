@@ -1,3 +1,4 @@
 pub mod GoodParts
 pub mod LaidOut
 pub mod Counted
+pub mod InOrder

@@ -3,3 +3,4 @@ pub mod Lists
 pub mod Controllers
 pub mod Orders
 pub mod Dots
+pub mod Below

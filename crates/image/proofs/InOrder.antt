@@ -1,0 +1,164 @@
+-- The stored points of an image, one by one: that they ascend by neighbours, and that no dot is another point's. Assumes nothing.
+use Prim.Native.Nat.{ℕ, zero, suc, _+_, _*_, _-_, _≤_, _<_}
+use mathlib.Core.Path.{_≡_, refl, ap, ap₂, sym, _∙_, subst}
+use mathlib.Core.Logic.{_⊎_, inl, inr, ⊎-elim}
+use mathlib.Core.Bool.{Bool, true, false, _&&_, _||_, not}
+use mathlib.Core.List.{List, [], _∷_, _++_}
+use native.Mathlib.Omega.{arith}
+use native.Mathlib.Nat.{le-of-suc-le-suc}
+use lib.Dec.{ltb}
+use borrow.Author.Tests.{ltb-true, ltb-false, not-true}
+use Rattle.numbers.specs.declared.Dot.{Dot}
+use Rattle.numbers.specs.declared.Key.{Key}
+use Rattle.numbers.specs.Words.{every, all?, ascends?}
+use Rattle.numbers.specs.Dot.{same-dot}
+use Rattle.numbers.specs.Key.{same-key}
+use Rattle.numbers.proofs.Tests.{by-test, never, same-test, and-left, and-right, and-both, or-cases, or-inl, or-inr, _∈_}
+use Rattle.numbers.proofs.Lists.{all-in, in-all, in-left, in-right}
+use Rattle.numbers.proofs.Orders.{Order, Ascends, ascends-first, ascends-rest, ascends-cons}
+use Rattle.numbers.proofs.Dots.{same-dots, dot-itself, same-keys, key-itself, key-order}
+use Rattle.numbers.proofs.Below.{Below}
+use Rattle.block.specs.Fields.{upto}
+use Rattle.block.proofs.Arrays.{in-upto, every-upto, upto-every}
+use Rattle.meaning.specs.Object.{Version, has-dot}
+use Rattle.meaning.specs.State.{Stored, stored-before, Listed, State, listed, dots-of}
+use Rattle.meaning.specs.Message.{dots-agree}
+use Rattle.meaning.specs.Good.{dots-apart}
+use Rattle.laws.proofs.MergeLaws.{has-dot-of, of-has-dot}
+use Rattle.laws.proofs.Putting.{stored-order}
+use Rattle.laws.proofs.Facts.{DotOf, in-dots, dots-in, agree-at, at-agree}
+use Rattle.image.specs.Apart.{apart, listed-for}
+
+-- ---- ascending, by places
+
+module _ {A : Type 0} (b : A → A → Bool) where
+  -- each of the first n comes before those after it
+  abbrev pub Up : (ℕ → A) → ℕ → Type 0
+  Up f n = (i j : ℕ) → i < j → j < n → b (f i) (f j) ≡ true
+
+  pub up-ascends : (n : ℕ) (f : ℕ → A) → Up f n → Ascends b (upto n f)
+  up-ascends zero f h = refl
+  up-ascends (suc n) f h =
+      ascends-cons b (f 0) (upto n (λ i. f (suc i)))
+      (λ y m. let q = in-upto n (λ i. f (suc i)) m in ap (b (f 0)) (q .2) ∙ h 0 (suc (q .0)) (omega arith) (omega (arith, q .1)))
+      (up-ascends n (λ i. f (suc i)) (λ i j l k. h (suc i) (suc j) (omega arith) (omega arith)))
+
+  pub ascends-up : (n : ℕ) (f : ℕ → A) → Ascends b (upto n f) → Up f n
+  ascends-up zero f t i j l k = absurd (omega arith)
+  ascends-up (suc n) f t i zero l k = absurd (omega arith)
+  ascends-up (suc n) f t zero (suc j) l k = ascends-first b (f 0) (upto n (λ i. f (suc i))) t (upto-in n (λ i. f (suc i)) j (le-of-suc-le-suc k))
+    where
+      upto-in : (m : ℕ) (g : ℕ → A) (x : ℕ) → x < m → g x ∈ upto m g
+      upto-in zero g x h = absurd (omega arith)
+      upto-in (suc m) g zero h = Rattle.numbers.proofs.Tests.here refl
+      upto-in (suc m) g (suc x) h = Rattle.numbers.proofs.Tests.there (upto-in m (λ y. g (suc y)) x (le-of-suc-le-suc h))
+  ascends-up (suc n) f t (suc i) (suc j) l k = ascends-up n (λ x. f (suc x)) (ascends-rest b (f 0) (upto n (λ x. f (suc x))) t) i j (omega arith) (le-of-suc-le-suc k)
+
+  -- one more, which comes after the last
+  pub up-one : (f : ℕ → A) → Up f 1
+  up-one f i j l k = absurd (omega arith)
+
+  pub up-more : Order b → (f : ℕ → A) (n : ℕ) → Up f (n + 1) → b (f n) (f (n + 1)) ≡ true → Up f (n + 1 + 1)
+  up-more O f n h t i j l k =
+      by-test (ltb j (n + 1)) (λ u. h i j l (ltb-true j (n + 1) u))
+      (λ u.
+      let last : n + 1 ≡ j = omega (arith, k, ltb-false j (n + 1) u) in
+      subst (λ (x : ℕ). b (f i) (f x) ≡ true) last
+      (by-test (ltb i n) (λ v. O .through (f i) (f n) (f (n + 1)) (h i n (ltb-true i n v) (omega arith)) t)
+      (λ v. subst (λ (x : ℕ). b (f x) (f (n + 1)) ≡ true) (omega (arith, l, last, ltb-false i n v)) t)))
+
+  -- a neighbour that does not come after stops it
+  pub up-fails : (f : ℕ → A) (n i : ℕ) → i + 1 < n → b (f i) (f (i + 1)) ≡ false → ascends? b (upto n f) ≡ false
+  up-fails f n i l e = by-test (ascends? b (upto n f)) (λ t. never (ascends-up n f t i (i + 1) (omega arith) l) e) (λ t. t)
+
+-- ---- dots
+
+no-shared : (p q : Stored) → apart p q ≡ true → (v w : Version) → v ∈ p .object .versions → w ∈ q .object .versions → v .dot ≡ w .dot → ⊥
+unfolding apart
+no-shared p q t v w mv mw e =
+    never (subst (λ (d : Dot). has-dot (q .object .versions) d ≡ true) (sym e) (of-has-dot (q .object .versions) mw))
+    (not-true (has-dot (q .object .versions) (v .dot)) (all-in (λ x. not (has-dot (q .object .versions) (x .dot))) (p .object .versions) t mv))
+
+shares-none : (p q : Stored) → ((v w : Version) → v ∈ p .object .versions → w ∈ q .object .versions → v .dot ≡ w .dot → ⊥) → apart p q ≡ true
+unfolding apart
+shares-none p q h =
+    in-all (λ v. not (has-dot (q .object .versions) (v .dot))) (p .object .versions)
+    (λ v m. by-test (has-dot (q .object .versions) (v .dot)) (λ t. let x = has-dot-of (q .object .versions) (v .dot) t in absurd (h v (x .0) m (x .1) (sym (x .2)))) (λ t. ap not t))
+
+-- points that ascend have their dots apart just where no two of them share one
+module _ (n : ℕ) (f : ℕ → Stored) (up : Ascends stored-before (upto n f)) where
+  abbrev pairs : Bool
+  pairs = every (upto n (λ j. every (upto j (λ i. apart (f i) (f j)))))
+
+  other-keys : (i j : ℕ) → i < j → j < n → f i .key ≡ f j .key → ⊥
+  other-keys i j l k e =
+      never (ascends-up stored-before n f up i j l k)
+      (subst (λ (x : Key). Rattle.numbers.specs.Key.key-before (f i .key) x ≡ false) e (key-order .itself (f i .key)))
+
+  agree→pairs : dots-agree (dots-of (upto n f)) (dots-of (upto n f)) ≡ true → pairs ≡ true
+  agree→pairs t =
+      every-upto n (λ j. every (upto j (λ i. apart (f i) (f j))))
+      (λ j k. every-upto j (λ i. apart (f i) (f j))
+      (λ i l. shares-none (f i) (f j)
+      (λ v w mv mw e. other-keys i j l k
+      (agree-at (dots-of (upto n f)) (dots-of (upto n f)) t _ _ (dots-in (upto n f) (place i (omega arith)) mv) (dots-in (upto n f) (place j k) mw) e))))
+    where
+      place : (x : ℕ) → x < n → f x ∈ upto n f
+      place x h = at n f x h
+        where
+          at : (m : ℕ) (g : ℕ → Stored) (y : ℕ) → y < m → g y ∈ upto m g
+          at zero g y z = absurd (omega arith)
+          at (suc m) g zero z = Rattle.numbers.proofs.Tests.here refl
+          at (suc m) g (suc y) z = Rattle.numbers.proofs.Tests.there (at m (λ u. g (suc u)) y (le-of-suc-le-suc z))
+
+  pairs→agree : pairs ≡ true → dots-agree (dots-of (upto n f)) (dots-of (upto n f)) ≡ true
+  pairs→agree t =
+      at-agree (dots-of (upto n f)) (dots-of (upto n f))
+      (λ l m p q e.
+      let x = in-dots (upto n f) p in
+      let y = in-dots (upto n f) q in
+      let i = in-upto n f (x .point-in) in
+      let j = in-upto n f (y .point-in) in
+      let dots : x .version .dot ≡ y .version .dot = sym (ap (λ (z : Listed). z .dot) (x .same)) ∙ e ∙ ap (λ (z : Listed). z .dot) (y .same) in
+      ap (λ (z : Listed). z .key) (x .same) ∙ keys i j (subst (λ (s : Stored). x .version ∈ s .object .versions) (i .2) (x .version-in)) (subst (λ (s : Stored). y .version ∈ s .object .versions) (j .2) (y .version-in)) dots
+      ∙ sym (ap (λ (z : Listed). z .key) (y .same)))
+    where
+      tested : (i j : ℕ) → i < j → j < n → apart (f i) (f j) ≡ true
+      tested i j l k = upto-every j (λ x. apart (f x) (f j)) (upto-every n (λ y. every (upto y (λ x. apart (f x) (f y)))) t j k) i l
+
+      keys : {p q : Stored} {v w : Version} (i : (x : ℕ) × (x < n) × (p ≡ f x)) (j : (y : ℕ) × (y < n) × (q ≡ f y)) → v ∈ f (i .0) .object .versions → w ∈ f (j .0) .object .versions → v .dot ≡ w .dot → p .key ≡ q .key
+      keys {p} {q} {v} {w} i j mv mw e =
+          by-test (ltb (i .0) (j .0)) (λ t. absurd (no-shared (f (i .0)) (f (j .0)) (tested (i .0) (j .0) (ltb-true (i .0) (j .0) t) (j .1)) v w mv mw e))
+          (λ t. by-test (ltb (j .0) (i .0)) (λ u. absurd (no-shared (f (j .0)) (f (i .0)) (tested (j .0) (i .0) (ltb-true (j .0) (i .0) u) (i .1)) w v mw mv (sym e)))
+          (λ u. ap (λ (s : Stored). s .key) (i .2 ∙ ap f (omega (arith, ltb-false (i .0) (j .0) t, ltb-false (j .0) (i .0) u)) ∙ sym (j .2))))
+
+  pub pairs-agree : dots-agree (dots-of (upto n f)) (dots-of (upto n f)) ≡ pairs
+  pairs-agree = same-test (dots-agree (dots-of (upto n f)) (dots-of (upto n f))) pairs agree→pairs pairs→agree
+
+-- a list agrees with the points just where each of them has its listed dots listed for it
+module _ (ls : List Listed) (ps : List Stored) where
+  pub lists-agree : dots-agree ls (dots-of ps) ≡ all? (listed-for ls) ps
+  unfolding listed-for
+  lists-agree = same-test (dots-agree ls (dots-of ps)) (all? (listed-for ls) ps) to from
+    where
+      to : dots-agree ls (dots-of ps) ≡ true → all? (listed-for ls) ps ≡ true
+      to t =
+          in-all (listed-for ls) ps
+          (λ p mp. in-all (λ v. all? (λ l. not (same-dot (l .dot) (v .dot)) || same-key (l .key) (p .key)) ls) (p .object .versions)
+          (λ v mv. in-all (λ l. not (same-dot (l .dot) (v .dot)) || same-key (l .key) (p .key)) ls
+          (λ l ml. by-test (same-dot (l .dot) (v .dot))
+          (λ u. or-inr (not (same-dot (l .dot) (v .dot))) (same-key (l .key) (p .key))
+          (subst (λ (x : Key). same-key (l .key) x ≡ true) (agree-at ls (dots-of ps) t l (record { dot = v .dot; key = p .key }) ml (dots-in ps mp mv) (same-dots (l .dot) (v .dot) u)) (key-itself (l .key))))
+          (λ u. or-inl (not (same-dot (l .dot) (v .dot))) (same-key (l .key) (p .key)) (ap not u)))))
+
+      from : all? (listed-for ls) ps ≡ true → dots-agree ls (dots-of ps) ≡ true
+      from t =
+          at-agree ls (dots-of ps)
+          (λ l m ml q e.
+          let y = in-dots ps q in
+          let same : l .dot ≡ y .version .dot = e ∙ ap (λ (z : Listed). z .dot) (y .same) in
+          ⊎-elim (λ u. never (subst (λ (d : Dot). same-dot (l .dot) d ≡ true) same (dot-itself (l .dot))) (not-true (same-dot (l .dot) (y .version .dot)) u))
+          (λ u. same-keys (l .key) (y .point .key) u ∙ sym (ap (λ (z : Listed). z .key) (y .same)))
+          (or-cases (not (same-dot (l .dot) (y .version .dot))) (same-key (l .key) (y .point .key))
+          (all-in (λ x. not (same-dot (x .dot) (y .version .dot)) || same-key (x .key) (y .point .key)) ls
+          (all-in (λ v. all? (λ x. not (same-dot (x .dot) (v .dot)) || same-key (x .key) (y .point .key)) ls) (y .point .object .versions) (all-in (listed-for ls) ps t (y .point-in)) (y .version-in)) ml)))

@@ -1,0 +1,29 @@
+-- "No dot stands in two records or is listed for another point than the record that holds it", as the code tests it: record against record,
+-- and each record against each list. Assumes nothing.
+use Prim.Native.Nat.{ℕ, _+_}
+use mathlib.Core.Bool.{Bool, _||_, not}
+use mathlib.Core.List.{List}
+use Rattle.numbers.specs.Words.{every, all?}
+use Rattle.numbers.specs.Dot.{same-dot}
+use Rattle.numbers.specs.Key.{same-key}
+use Rattle.block.specs.Fields.{upto}
+use Rattle.block.specs.Block.{block-at}
+use Rattle.meaning.specs.Object.{has-dot}
+use Rattle.meaning.specs.State.{Stored, Listed}
+use Rattle.layout.specs.PointBlock.{form-1, decode-stored}
+
+-- no version dot of p is one of q
+unfoldable pub apart : Stored → Stored → Bool
+apart p q = all? (λ v. not (has-dot (q .object .versions) (v .dot))) (p .object .versions)
+
+-- a version dot of p that is listed is listed for p
+unfoldable pub listed-for : List Listed → Stored → Bool
+listed-for ls p = all? (λ v. all? (λ l. not (same-dot (l .dot) (v .dot)) || same-key (l .key) (p .key)) ls) (p .object .versions)
+
+-- the i-th stored point
+abbrev pub point-at : List ℕ → ℕ → Stored
+point-at img i = decode-stored form-1 (block-at img (3 + i))
+
+-- the j-th stored point shares no dot with one before it
+unfoldable pub apart-from-earlier : List ℕ → ℕ → Bool
+apart-from-earlier img j = every (upto j (λ i. apart (point-at img i) (point-at img j)))
