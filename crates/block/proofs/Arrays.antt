@@ -33,6 +33,11 @@ module _ {A : Type 0} where
   in-upto (suc n) f m =
       ⊎-elim (λ p. (0, omega arith, p)) (λ q. let r = in-upto n (λ j. f (suc j)) q in (suc (r .0), omega (arith, r .1), r .2)) (List·Memᴰ·cases-cons m)
 
+  pub upto-in : (n : ℕ) (f : ℕ → A) (i : ℕ) → i < n → List·Memᴰ (f i) (upto n f)
+  upto-in zero f i l = absurd (omega arith)
+  upto-in (suc n) f zero l = List·Memᴰ·head refl
+  upto-in (suc n) f (suc i) l = List·Memᴰ·tail (upto-in n (λ j. f (suc j)) i (le-of-suc-le-suc l))
+
   -- the first of those below n are those below m
   pub take-upto : (m n : ℕ) (f : ℕ → A) → m ≤ n → take m (upto n f) ≡ upto m f
   take-upto zero n f h = refl

@@ -12,7 +12,7 @@ use lib.Seq.{take-at, take-all, drop-drop}
 use lib.Dec.{eqb}
 use borrow.Author.Tests.{eqb-true, eq-eqb}
 use Rattle.numbers.specs.Words.{every, all?, concat-map, same-list}
-use Rattle.numbers.proofs.Tests.{by-test, never, same-test, and-left, and-right, and-both}
+use Rattle.numbers.proofs.Tests.{same-test, and-left, and-right, and-both, and-group}
 use Rattle.block.specs.declared.Sums.{Sums}
 use Rattle.block.specs.Fields.{le, number, cut, field, zeros, pad, upto}
 use Rattle.block.specs.Check.{sums-from, sums, seal, sealed}
@@ -42,10 +42,6 @@ pub same-iff : (a b c d : List ℕ) → (a ≡ b → c ≡ d) → (c ≡ d → a
 same-iff a b c d f g = same-test (same-list a b) (same-list c d) (λ t. same-of c d (f (of-same a b t))) (λ t. same-of a b (g (of-same c d t)))
 
 -- ---- an append
-
-and-group : (a b c : Bool) → (a && (b && c)) ≡ ((a && b) && c)
-and-group true b c = refl
-and-group false b c = refl
 
 pub same-append : (x y b : List ℕ) → length b ≡ length x + length y → same-list (x ++ y) b ≡ (same-list x (take (length x) b) && same-list y (drop (length x) b))
 same-append [] y b e = refl

@@ -9,7 +9,7 @@ use borrow.Author.Tests.{le-leb, eq-eqb}
 use Rattle.numbers.specs.declared.Controller.{Controller}
 use Rattle.numbers.specs.Words.{every, all?, ascends?}
 use Rattle.numbers.specs.Numbers.{is-controller, same-controller, controllers}
-use Rattle.numbers.proofs.Tests.{same-test, and-left, and-right, and-both, _∈_}
+use Rattle.numbers.proofs.Tests.{same-test, and-left, and-right, and-both, and-group, _∈_}
 use Rattle.numbers.proofs.Lists.{all-in, in-all, clause, Passed, passed, _and-also_, all-passed}
 use Rattle.meaning.specs.CrewTable.{is-table, holds}
 use Rattle.meaning.specs.Clock.{row, in-clock}
@@ -39,11 +39,7 @@ pub record Shape (s : State) : Type 0 where
 
 all-append : {A : Type 0} (f : A → Bool) (xs ys : List A) → all? f (xs ++ ys) ≡ (all? f xs && all? f ys)
 all-append f [] ys = refl
-all-append f (x ∷ xs) ys = ap (λ (t : Bool). f x && t) (all-append f xs ys) ∙ group (f x) (all? f xs) (all? f ys)
-  where
-    group : (a b c : Bool) → (a && (b && c)) ≡ ((a && b) && c)
-    group true b c = refl
-    group false b c = refl
+all-append f (x ∷ xs) ys = ap (λ (t : Bool). f x && t) (all-append f xs ys) ∙ and-group (f x) (all? f xs) (all? f ys)
 
 all-left : {A : Type 0} (f : A → Bool) (xs ys : List A) → all? f (xs ++ ys) ≡ true → all? f xs ≡ true
 all-left f xs ys t = and-left (all? f xs) (all? f ys) (sym (all-append f xs ys) ∙ t)

@@ -19,7 +19,7 @@ use Rattle.numbers.proofs.Orders.{Order, Ascends, ascends-first, ascends-rest, 
 use Rattle.numbers.proofs.Dots.{same-dots, dot-itself, same-keys, key-itself, key-order}
 use Rattle.numbers.proofs.Below.{Below}
 use Rattle.block.specs.Fields.{upto}
-use Rattle.block.proofs.Arrays.{in-upto, every-upto, upto-every}
+use Rattle.block.proofs.Arrays.{in-upto, upto-in, every-upto, upto-every}
 use Rattle.meaning.specs.Object.{Version, has-dot}
 use Rattle.meaning.specs.State.{Stored, stored-before, Listed, State, listed, dots-of}
 use Rattle.meaning.specs.Message.{dots-agree}
@@ -47,11 +47,6 @@ module _ {A : Type 0} (b : A → A → Bool) where
   ascends-up zero f t i j l k = absurd (omega arith)
   ascends-up (suc n) f t i zero l k = absurd (omega arith)
   ascends-up (suc n) f t zero (suc j) l k = ascends-first b (f 0) (upto n (λ i. f (suc i))) t (upto-in n (λ i. f (suc i)) j (le-of-suc-le-suc k))
-    where
-      upto-in : (m : ℕ) (g : ℕ → A) (x : ℕ) → x < m → g x ∈ upto m g
-      upto-in zero g x h = absurd (omega arith)
-      upto-in (suc m) g zero h = Rattle.numbers.proofs.Tests.here refl
-      upto-in (suc m) g (suc x) h = Rattle.numbers.proofs.Tests.there (upto-in m (λ y. g (suc y)) x (le-of-suc-le-suc h))
   ascends-up (suc n) f t (suc i) (suc j) l k = ascends-up n (λ x. f (suc x)) (ascends-rest b (f 0) (upto n (λ x. f (suc x))) t) i j (omega arith) (le-of-suc-le-suc k)
 
   -- one more, which comes after the last
@@ -101,15 +96,7 @@ module _ (n : ℕ) (f : ℕ → Stored) (up : Ascends stored-before (upto n f)) 
       (λ j k. every-upto j (λ i. apart (f i) (f j))
       (λ i l. shares-none (f i) (f j)
       (λ v w mv mw e. other-keys i j l k
-      (agree-at (dots-of (upto n f)) (dots-of (upto n f)) t _ _ (dots-in (upto n f) (place i (omega arith)) mv) (dots-in (upto n f) (place j k) mw) e))))
-    where
-      place : (x : ℕ) → x < n → f x ∈ upto n f
-      place x h = at n f x h
-        where
-          at : (m : ℕ) (g : ℕ → Stored) (y : ℕ) → y < m → g y ∈ upto m g
-          at zero g y z = absurd (omega arith)
-          at (suc m) g zero z = Rattle.numbers.proofs.Tests.here refl
-          at (suc m) g (suc y) z = Rattle.numbers.proofs.Tests.there (at m (λ u. g (suc u)) y (le-of-suc-le-suc z))
+      (agree-at (dots-of (upto n f)) (dots-of (upto n f)) t _ _ (dots-in (upto n f) (upto-in n f i (omega arith)) mv) (dots-in (upto n f) (upto-in n f j k) mw) e))))
 
   pairs→agree : pairs ≡ true → dots-agree (dots-of (upto n f)) (dots-of (upto n f)) ≡ true
   pairs→agree t =

@@ -2,14 +2,15 @@
 use Prim.Native.Nat.{ℕ, zero, suc, _+_, _*_, _-_, _≤_, _<_}
 use mathlib.Core.Path.{_≡_, refl, ap, ap₂, sym, _∙_, subst}
 use mathlib.Core.Bool.{Bool, true, false, _&&_}
-use mathlib.Core.List.{List, [], _∷_, _++_, append-assoc}
+use mathlib.Core.Logic.{⊎-elim}
+use mathlib.Core.List.{List, [], _∷_, _++_, append-assoc, List·Memᴰ·not-nil, List·Memᴰ·cases-cons}
 use native.Mathlib.Omega.{arith}
 use lib.ListN.{length, take, drop, length-append, length-drop, length-replicate}
 use lib.Seq.{drop-drop}
 use lib.Dec.{eqb}
 use Rattle.numbers.specs.Words.{if_then_else_, every, all?, map, same-list}
-use Rattle.numbers.proofs.Tests.{by-test, _∈_}
-use Rattle.numbers.proofs.Lists.{in-map}
+use Rattle.numbers.proofs.Tests.{by-test, and-group, and-one, _∈_, here, there}
+use Rattle.numbers.proofs.Lists.{in-map, map-length}
 use Rattle.block.specs.Fields.{cut, field, zeros, upto}
 use Rattle.block.specs.Block.{block-at}
 use Rattle.block.proofs.Numbers.{Bytes, bytes-drop, bytes-cut}
@@ -20,7 +21,7 @@ use Rattle.meaning.specs.State.{Stored, State}
 use Rattle.meaning.specs.Settle.{most-points}
 use Rattle.layout.specs.PointBlock.{form-1, encode-stored, decode-stored}
 use Rattle.layout.specs.Image.{image-length, head-of, encode-head, decode-head, encode-dots, decode-dots, encode-points, encode, until-zero, decode}
-use Rattle.layout.proofs.ImageBack.{head-length, dots-length, stored-length, points-length, AllSized}
+use Rattle.layout.proofs.ImageBack.{head-length, dots-length, stored-length, points-length, StoredSized, AllSized}
 use Rattle.layout.proofs.Decoded.{stored-decoded, dots-decoded, head-decoded}
 use Rattle.image.specs.Parts.{stored-count, stored-laid-out, parts-laid-out}
 
@@ -59,23 +60,19 @@ test b k = same-list (encode-stored form-1 k (decode-stored form-1 b)) b
 until-in : (bs : List (List ℕ)) {b : List ℕ} → b ∈ until-zero bs → b ∈ bs
 until-in [] m = m
 until-in (x ∷ xs) {b} m =
-    by-test (eqb (field x 0 1) 0) (λ t. absurd (mathlib.Core.List.List·Memᴰ·not-nil (rw t at m)))
-    (λ t. mathlib.Core.Logic.⊎-elim Rattle.numbers.proofs.Tests.here (λ k. Rattle.numbers.proofs.Tests.there (until-in xs k)) (mathlib.Core.List.List·Memᴰ·cases-cons (rw t at m)))
+    by-test (eqb (field x 0 1) 0) (λ t. absurd (List·Memᴰ·not-nil (rw t at m)))
+    (λ t. ⊎-elim here (λ k. there (until-in xs k)) (List·Memᴰ·cases-cons (rw t at m)))
 
 used-sized : (m : ℕ) (r : List ℕ) → Bytes r → length r ≡ 512 * m → AllSized (map (decode-stored form-1) (used m r))
 used-sized m r h e p k =
     let q = in-map (decode-stored form-1) (used m r) k in
     let b = in-upto m (block-at r) (until-in (upto m (block-at r)) (q .1)) in
-    subst (λ (x : Stored). Rattle.layout.proofs.ImageBack.StoredSized x) (sym (q .2))
+    subst (λ (x : Stored). StoredSized x) (sym (q .2))
     (stored-decoded (q .0) (subst (λ (x : List ℕ). Bytes x) (sym (b .2)) (bytes-block r (b .0) h)) (subst (λ (x : List ℕ). length x ≡ 512) (sym (b .2)) (block-length r (b .0) (omega (arith, b .1)))))
 
 until-few : (bs : List (List ℕ)) → length (until-zero bs) ≤ length bs
 until-few [] = omega arith
 until-few (b ∷ bs) = let rest = until-few bs in by-test (eqb (field b 0 1) 0) (λ t. rw t (omega arith)) (λ t. rw t (omega arith))
-
-map-length : {A B : Type 0} (f : A → B) (xs : List A) → length (map f xs) ≡ length xs
-map-length f [] = refl
-map-length f (x ∷ xs) = ap suc (map-length f xs)
 
 used-few : (m : ℕ) (r : List ℕ) → length (used m r) ≤ m
 used-few m r = omega (arith, until-few (upto m (block-at r)), upto-length m (block-at r))
@@ -130,10 +127,6 @@ points-same (suc m) position r h e = by-test (eqb (field (block-at r 0) 0 1) 0) 
             there : 512 + 512 * n ≡ 512 * suc n
             there = omega arith
 
-        group : (a b c : Bool) → (a && (b && c)) ≡ ((a && b) && c)
-        group true b c = refl
-        group false b c = refl
-
         here-zero : position ≡ position + 0
         here-zero = omega arith
 
@@ -156,7 +149,7 @@ points-same (suc m) position r h e = by-test (eqb (field (block-at r 0) 0 1) 0) 
             ∙ same-parts (encode-stored form-1 position (decode-stored form-1 (block-at r 0))) (encode-points (position + 1) (map (decode-stored form-1) (used m (drop 512 r))) ++ zeros (512 * (m - length (used m (drop 512 r))))) r 512 e0-length
             (e ∙ simp (length-append, length-replicate, more-length) (omega (arith, used-few m (drop 512 r))))
             ∙ ap₂ _&&_ (ap (same-list (encode-stored form-1 position (decode-stored form-1 (block-at r 0)))) (block-zero r) ∙ ap (test (block-at r 0)) here-zero) (ih ∙ ap₂ _&&_ tests-on (ap (all? (λ x. eqb x 0)) (sym (past (length (used m (drop 512 r)))))))
-            ∙ group (test (block-at r 0) (position + 0)) (every (upto (length (used m (drop 512 r))) (λ i. test (block-at r (suc i)) (position + suc i)))) (all? (λ x. eqb x 0) (drop (512 * suc (length (used m (drop 512 r)))) r))
+            ∙ and-group (test (block-at r 0) (position + 0)) (every (upto (length (used m (drop 512 r))) (λ i. test (block-at r (suc i)) (position + suc i)))) (all? (λ x. eqb x 0) (drop (512 * suc (length (used m (drop 512 r)))) r))
 
 -- ---- the image
 
@@ -211,10 +204,6 @@ module _ (img : List ℕ) (h : Bytes img) (e : length img ≡ image-length) wher
   encoded =
       ap (λ (bs : List (List ℕ)). head-part ++ (own-part ++ (foreign-part ++ (encode-points 3 (map (decode-stored form-1) (until-zero bs)) ++ zeros (512 * (most-points - length (map (decode-stored form-1) (until-zero bs)))))))) (sym rest-blocks)
       ∙ ap (λ (n : ℕ). head-part ++ (own-part ++ (foreign-part ++ (encode-points 3 (map (decode-stored form-1) (used most-points (drop 1536 img))) ++ zeros (512 * (most-points - n)))))) (map-length (decode-stored form-1) (used most-points (drop 1536 img)))
-
-  and-one : (b : Bool) → (b && true) ≡ b
-  and-one true = refl
-  and-one false = refl
 
   pub laid-out-by-parts : same-list (encode (decode img)) img ≡ parts-laid-out img
   unfolding parts-laid-out stored-laid-out test

@@ -16,7 +16,7 @@ use Rattle.numbers.specs.Words.{some?, all?, keep, place-all, map, ascends?}
 use Rattle.numbers.specs.Numbers.{is-controller, is-counter, same-controller, controllers}
 use Rattle.numbers.specs.Key.{is-key, key-before}
 use Rattle.numbers.proofs.Tests.{by-test, never, and-left, and-right, and-both, or-cases, or-inl, or-inr, _∈_, here}
-use Rattle.numbers.proofs.Lists.{some-in, in-some, in-keep, in-all, in-map, in-place-all, clause, passed, _and-also_, all-passed}
+use Rattle.numbers.proofs.Lists.{some-in, in-some, in-keep, in-all, in-map, map-length, in-place-all, clause, passed, _and-also_, all-passed}
 use Rattle.numbers.proofs.Controllers.{Crew, crew-is, is-crew, same-controllers}
 use Rattle.numbers.proofs.Orders.{Ascends, place-all-ascends, map-ascends, keep-length, place-all-length}
 use Rattle.numbers.proofs.Dots.{key-order}
@@ -202,10 +202,6 @@ module _ (s : State) (G : Good s) (a : Ask) where
         G .foreign-few,
       )
     where
-      map-length : {A B : Type 0} (f : A → B) (xs : List A) → length (map f xs) ≡ length xs
-      map-length f [] = refl
-      map-length f (x ∷ xs) = ap Prim.Native.Nat.suc (map-length f xs)
-
       lacking-few : length (lacking s a) ≤ length (listed s)
       lacking-few = unfold lacking in (keep-length Rattle.meaning.specs.State.listed-before _ (listed s))
 

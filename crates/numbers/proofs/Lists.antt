@@ -5,7 +5,7 @@ use mathlib.Core.Logic.{_⊎_, inl, inr, _↔_, ⊎-elim, ⊎-map}
 use mathlib.Core.Bool.{Bool, true, false, _&&_, _||_, not, false≢true}
 use mathlib.Core.List.{List, [], _∷_, _++_, List·Memᴰ·append-cases, List·Memᴰ·not-nil, List·Memᴰ·cases-cons, Memᴰ·cast}
 use native.Mathlib.Omega.{arith}
-use lib.ListN.{getD}
+use lib.ListN.{length, getD}
 use Rattle.numbers.specs.Words.{if_then_else_, every, cons-if, keep, some?, all?, place, place-all, map, concat-map}
 use Rattle.numbers.proofs.Tests.{by-test, never, and-left, and-right, and-both, or-cases, or-inl, or-inr, _∈_, here, there}
 
@@ -135,6 +135,10 @@ in-map f (x ∷ xs) m =
 pub map-in : {A B : Type 0} (f : A → B) (xs : List A) {x : A} → x ∈ xs → f x ∈ map f xs
 map-in f [] m = absurd (List·Memᴰ·not-nil m)
 map-in f (y ∷ ys) m = ⊎-elim (λ e. here (ap f e)) (λ h. there (map-in f ys h)) (List·Memᴰ·cases-cons m)
+
+pub map-length : {A B : Type 0} (f : A → B) (xs : List A) → length (map f xs) ≡ length xs
+map-length f [] = refl
+map-length f (x ∷ xs) = ap suc (map-length f xs)
 
 pub in-concat-map : {A B : Type 0} (f : A → List B) (xs : List A) {y : B} → y ∈ concat-map f xs → (x : A) × (x ∈ xs) × (y ∈ f x)
 in-concat-map f [] m = absurd (List·Memᴰ·not-nil m)
