@@ -5,7 +5,9 @@ use mathlib.Core.List.{List, [], _∷_, _++_, List·Memᴰ, List·Memᴰ·head, 
 use mathlib.Core.Logic.{⊎-elim}
 use native.Mathlib.Nat.{pow-suc, pow-zero}
 use native.Mathlib.Omega.{arith}
-use lib.ListN.{length, take, drop}
+use lib.ListN.{length, take, drop, getD}
+use mir.Val.{Fits}
+use mir.Syntax.{w8}
 use Rattle.block.specs.Fields.{le, number, cut, field}
 use Rattle.block.proofs.Parts.{length-cut}
 
@@ -42,6 +44,12 @@ le-number (b ∷ bs) h =
     let low : (b + 256 * number bs) % 256 ≡ b = omega arith in
     let high : (b + 256 * number bs) / 256 ≡ number bs = omega arith in
     rw (low, high, rest)
+
+-- what a slice of bytes holds is bytes
+pub bytes-of : (l : List ℕ) → ((i : ℕ) → Fits w8 (getD l i 0)) → Bytes l
+bytes-of [] h x m = absurd (List·Memᴰ·not-nil m)
+bytes-of (a ∷ l) h x m =
+    ⊎-elim (λ e. subst (λ (v : ℕ). v < 256) (sym e) (omega (arith, h 0))) (λ k. bytes-of l (λ i. h (suc i)) x k) (List·Memᴰ·cases-cons m)
 
 -- ---- parts of bytes are bytes
 
