@@ -1,1 +1,2 @@
 pub mod HeadGood
+pub mod HeadParts

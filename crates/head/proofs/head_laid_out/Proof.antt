@@ -1,0 +1,63 @@
+-- `head::head_laid_out` meets its contract. Each answer is one of the tests that Laid names. Assumes nothing.
+use mathlib.Core.Path.{sym, _∙_}
+use denote.Ref.{now}
+use borrow.Author.Tests.{not-true, not-false}
+use Rattle.numbers.proofs.Lists.{passed, _and-also_}
+use Rattle.head.proofs.Rounds.{read-is, read-is-not}
+use Rattle.head.proofs.Laid.{not-laid-out, laid-out}
+use borrow.Author.Needs.{needs}
+use Rattle.head.proofs.head_laid_out.Statement.{statement}
+use Rattle.head.proofs.head_laid_out.Tie as tie
+
+u8-at-requires : tie.Need-u8-at-requires
+u8-at-requires c κs = search needs
+
+returns : tie.Need-returns
+returns c = not-laid-out (now (c .before .before .before .args .b)) (c .before .before .shared-slice-known .given) (search needs) 0 (read-is-not (c .before .u8-at .ensures) (c .if1 .taken))
+
+u8-at-requires-2 : tie.Need-u8-at-requires-2
+u8-at-requires-2 c κs = search needs
+
+returns-2 : tie.Need-returns-2
+returns-2 c = not-laid-out (now (c .before .before .before .before .before .args .b)) (c .before .before .before .before .shared-slice-known .given) (search needs) 1 (read-is-not (c .before .u8-at2 .ensures) (c .if2 .taken))
+
+u16-at-requires : tie.Need-u16-at-requires
+u16-at-requires c κs = search needs
+
+returns-3 : tie.Need-returns-3
+returns-3 c = not-laid-out (now (c .before .before .before .before .before .before .before .args .b)) (c .before .before .before .before .before .before .shared-slice-known .given) (search needs) 2 (read-is-not (c .before .u16-at .ensures) (c .if3 .taken))
+
+is-zero-requires : tie.Need-is-zero-requires
+is-zero-requires c κs = search needs
+
+returns-4 : tie.Need-returns-4
+returns-4 c = not-laid-out (now (c .before .before .before .before .before .before .before .before .before .args .b)) (c .before .before .before .before .before .before .before .before .shared-slice-known .given) (search needs) 3 (sym (c .before .is-zero .ensures) ∙ not-true _ (c .if4 .taken))
+
+is-zero-requires-2 : tie.Need-is-zero-requires-2
+is-zero-requires-2 c κs = search needs
+
+returns-5 : tie.Need-returns-5
+returns-5 c = not-laid-out (now (c .before .before .before .before .before .before .before .before .before .before .before .args .b)) (c .before .before .before .before .before .before .before .before .before .before .shared-slice-known .given) (search needs) 4 (sym (c .before .is-zero2 .ensures) ∙ not-true _ (c .if5 .taken))
+
+is-sealed-requires : tie.Need-is-sealed-requires
+is-sealed-requires c κs = search needs
+
+returns-6 : tie.Need-returns-6
+returns-6 c = c .is-sealed .ensures ∙ laid-out (now (c .before .before .before .before .before .before .before .before .before .before .before .before .args .b)) (c .before .before .before .before .before .before .before .before .before .before .before .shared-slice-known .given) (search needs) (read-is (c .before .before .before .before .before .before .before .before .before .before .u8-at .ensures) (c .before .before .before .before .before .before .before .before .before .if1 .left) and-also read-is (c .before .before .before .before .before .before .before .before .u8-at2 .ensures) (c .before .before .before .before .before .before .before .if2 .left) and-also read-is (c .before .before .before .before .before .before .u16-at .ensures) (c .before .before .before .before .before .if3 .left) and-also (sym (c .before .before .before .before .is-zero .ensures) ∙ not-false _ (c .before .before .before .if4 .left)) and-also (sym (c .before .before .is-zero2 .ensures) ∙ not-false _ (c .before .if5 .left)) and-also passed)
+
+pub head-laid-out-spec : {M : Type 1} → statement M
+head-laid-out-spec =
+    tie.close
+    (tie.spec
+    u8-at-requires
+    returns
+    u8-at-requires-2
+    returns-2
+    u16-at-requires
+    returns-3
+    is-zero-requires
+    returns-4
+    is-zero-requires-2
+    returns-5
+    is-sealed-requires
+    returns-6)
