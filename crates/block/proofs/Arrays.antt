@@ -6,10 +6,7 @@ use mathlib.Core.Logic.{⊎-elim}
 use native.Mathlib.Nat.{mul-suc, mul-zero, le-of-suc-le-suc}
 use native.Mathlib.Omega.{arith}
 use lib.ListN.{length, take, drop, getD, length-append}
-use mathlib.Core.Bool.{Bool, true, false, _&&_}
-use Rattle.numbers.specs.Words.{every, all?, concat-map}
-use Rattle.numbers.proofs.Tests.{by-test, never, and-left, and-right, and-both}
-use Rattle.numbers.proofs.Below.{Below}
+use Rattle.numbers.specs.Words.{concat-map}
 use Rattle.block.specs.Fields.{cut, upto}
 use Rattle.block.proofs.Parts.{cut-past, cut-first}
 
@@ -80,23 +77,3 @@ module _ {A : Type 0} (w : ℕ) (enc : A → List ℕ) where
       (λ i l. ap dec (array-next x xs rest i (size x (List·Memᴰ·head refl))))
       ∙ array-back dec xs rest (λ y m. size y (List·Memᴰ·tail m)) (λ y m. back y (List·Memᴰ·tail m)) in
       λ k. first k ∷ others k
-
--- ---- a test of every number below n
-
-pub every-upto : (n : ℕ) (f : ℕ → Bool) → Below f n → every (upto n f) ≡ true
-every-upto zero f h = refl
-every-upto (suc n) f h = and-both (f 0) (every (upto n (λ i. f (suc i)))) (h 0 (omega arith)) (every-upto n (λ i. f (suc i)) (λ i l. h (suc i) (omega arith)))
-
-pub upto-every : (n : ℕ) (f : ℕ → Bool) → every (upto n f) ≡ true → Below f n
-upto-every zero f t i l = absurd (omega arith)
-upto-every (suc n) f t zero l = and-left (f 0) (every (upto n (λ i. f (suc i)))) t
-upto-every (suc n) f t (suc i) l = upto-every n (λ j. f (suc j)) (and-right (f 0) (every (upto n (λ i. f (suc i)))) t) i (le-of-suc-le-suc l)
-
--- one that fails fails them all
-pub every-fails : (n : ℕ) (f : ℕ → Bool) (i : ℕ) → i < n → f i ≡ false → every (upto n f) ≡ false
-every-fails n f i l e = by-test (every (upto n f)) (λ t. never (upto-every n f t i l) e) (λ t. t)
-
--- the same of all of a list that is made so
-pub all-upto : {A : Type 0} (g : A → Bool) (n : ℕ) (f : ℕ → A) → all? g (upto n f) ≡ every (upto n (λ i. g (f i)))
-all-upto g zero f = refl
-all-upto g (suc n) f = ap (λ (t : Bool). g (f 0) && t) (all-upto g n (λ i. f (suc i)))

@@ -8,3 +8,4 @@ pub mod Halves
 pub mod Summing
 pub mod Copies
 pub mod Scans
+pub mod Passing

@@ -13,7 +13,8 @@ use Rattle.numbers.proofs.Tests.{and-both}
 use Rattle.block.specs.Fields.{le, number, cut, field, upto}
 use Rattle.block.proofs.Parts.{length-cut}
 use Rattle.block.proofs.Numbers.{Bytes, bytes-cut, le-length, le-number}
-use Rattle.block.proofs.Arrays.{upto-same, array-length, every-upto}
+use Rattle.block.proofs.Arrays.{upto-same, array-length}
+use Rattle.block.proofs.Passing.{every-true}
 use Rattle.block.proofs.Halves.{field-byte}
 use Rattle.block.proofs.Same.{same-of, of-same, same-field, same-array}
 use Rattle.layout.specs.Clocks.{encode-row, decode-row, encode-clock, decode-clock}
@@ -32,7 +33,7 @@ pub array-again : {A : Type 0} (w : ℕ) (enc : A → List ℕ) (dec : List ℕ 
 array-again w enc dec n b h e size same =
     of-same (concat-map enc (upto n (λ i. dec (cut b (w * i) w)))) b
     (same-array w enc dec n b e size
-    ∙ every-upto n (λ i. same-list (enc (dec (cut b (w * i) w))) (cut b (w * i) w))
+    ∙ every-true n (λ i. same-list (enc (dec (cut b (w * i) w))) (cut b (w * i) w))
     (λ i l.
     same-of (enc (dec (cut b (w * i) w))) (cut b (w * i) w)
     (same (cut b (w * i) w) (length-cut b (w * i) w (omega (arith, e, mul-le-mul-left w l, mul-suc w i))) (bytes-cut b (w * i) w h))))

@@ -17,9 +17,9 @@ use Rattle.numbers.proofs.Tests.{by-test, never, same-test, and-left, and-right
 use Rattle.numbers.proofs.Lists.{all-in, in-all, in-left, in-right}
 use Rattle.numbers.proofs.Orders.{Order, Ascends, ascends-first, ascends-rest, ascends-cons}
 use Rattle.numbers.proofs.Dots.{same-dots, dot-itself, same-keys, key-itself, key-order}
-use Rattle.numbers.proofs.Below.{Below}
 use Rattle.block.specs.Fields.{upto}
-use Rattle.block.proofs.Arrays.{in-upto, upto-in, every-upto, upto-every}
+use Rattle.block.proofs.Arrays.{in-upto, upto-in}
+use Rattle.block.proofs.Passing.{every-true, every-at}
 use Rattle.meaning.specs.Object.{Version, has-dot}
 use Rattle.meaning.specs.State.{Stored, stored-before, Listed, State, listed, dots-of}
 use Rattle.meaning.specs.Message.{dots-agree}
@@ -92,8 +92,8 @@ module _ (n : ℕ) (f : ℕ → Stored) (up : Ascends stored-before (upto n f)) 
 
   agree→pairs : dots-agree (dots-of (upto n f)) (dots-of (upto n f)) ≡ true → pairs ≡ true
   agree→pairs t =
-      every-upto n (λ j. every (upto j (λ i. apart (f i) (f j))))
-      (λ j k. every-upto j (λ i. apart (f i) (f j))
+      every-true n (λ j. every (upto j (λ i. apart (f i) (f j))))
+      (λ j k. every-true j (λ i. apart (f i) (f j))
       (λ i l. shares-none (f i) (f j)
       (λ v w mv mw e. other-keys i j l k
       (agree-at (dots-of (upto n f)) (dots-of (upto n f)) t _ _ (dots-in (upto n f) (upto-in n f i (omega arith)) mv) (dots-in (upto n f) (upto-in n f j k) mw) e))))
@@ -111,7 +111,7 @@ module _ (n : ℕ) (f : ℕ → Stored) (up : Ascends stored-before (upto n f)) 
       ∙ sym (ap (λ (z : Listed). z .key) (y .same)))
     where
       tested : (i j : ℕ) → i < j → j < n → apart (f i) (f j) ≡ true
-      tested i j l k = upto-every j (λ x. apart (f x) (f j)) (upto-every n (λ y. every (upto y (λ x. apart (f x) (f y)))) t j k) i l
+      tested i j l k = every-at j (λ x. apart (f x) (f j)) (every-at n (λ y. every (upto y (λ x. apart (f x) (f y)))) t j k) i l
 
       keys : {p q : Stored} {v w : Version} (i : (x : ℕ) × (x < n) × (p ≡ f x)) (j : (y : ℕ) × (y < n) × (q ≡ f y)) → v ∈ f (i .0) .object .versions → w ∈ f (j .0) .object .versions → v .dot ≡ w .dot → p .key ≡ q .key
       keys {p} {q} {v} {w} i j mv mw e =

@@ -3,4 +3,3 @@ pub mod Lists
 pub mod Controllers
 pub mod Orders
 pub mod Dots
-pub mod Below
