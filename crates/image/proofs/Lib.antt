@@ -2,3 +2,4 @@ pub mod GoodParts
 pub mod LaidOut
 pub mod Counted
 pub mod InOrder
+pub mod Loops

@@ -52,6 +52,22 @@ pair-tied a b c d p q = (first, second)
           ltb-false d b (and-false (eqb c a) (ltb d b) (q′ .1) (eq-eqb c a (sym first))),
         )
 
+-- the same tests as code makes them: by the first numbers, and where these are the same by the second
+pub other-first : (a b c d : ℕ) → (a ≡ c → ⊥) → false ≡ same-pair a b c d
+other-first a b c d h = sym (ap (λ (t : Bool). t && eqb b d) (ne-eqb a c h))
+
+pub by-second : (a b c d : ℕ) → a ≡ c → eqb b d ≡ same-pair a b c d
+by-second a b c d e = sym (ap (λ (t : Bool). t && eqb b d) (eq-eqb a c e))
+
+pub first-before : (a b c d : ℕ) → a < c → true ≡ pair-before a b c d
+first-before a b c d l = sym (lt-pair a b c d (inl l))
+
+pub first-after : (a b c d : ℕ) → c ≤ a → (a ≡ c → ⊥) → false ≡ pair-before a b c d
+first-after a b c d l h = sym (ap (λ (t : Bool). t || (eqb a c && ltb b d)) (le-ltb a c l) ∙ ap (λ (t : Bool). t && ltb b d) (ne-eqb a c h))
+
+pub second-before : (a b c d : ℕ) → a ≡ c → ltb b d ≡ pair-before a b c d
+second-before a b c d e = sym (ap (λ (t : Bool). t || (eqb a c && ltb b d)) (le-ltb a c (omega arith)) ∙ ap (λ (t : Bool). t && ltb b d) (eq-eqb a c e))
+
 -- ---- orders
 
 pub record Order {A : Type 0} (before : A → A → Bool) : Type 0 where

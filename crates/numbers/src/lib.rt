@@ -1,4 +1,7 @@
 // "Controller numbers, counters and point numbers are kept apart": each is a type of its own, here and in every definition.
+ghost use mathlib.Core.Path.{_≡_};
+ghost use Rattle.numbers.specs.Dot.{same-dot};
+ghost use Rattle.numbers.specs.Key.{same-key, key-before};
 
 // A controller number, 1 to 8.
 pub struct Controller(pub u8);
@@ -19,4 +22,39 @@ pub struct Dot {
 pub struct Key {
     pub job: u8,
     pub point: Point,
+}
+
+impl Dot {
+    pub fn same(self, other: Dot) -> bool
+        ensures { λ r. ⌜ r ≡ same-dot self other ⌝ }
+    {
+        if self.who.0 != other.who.0 {
+            return false;
+        }
+        self.count.0 == other.count.0
+    }
+}
+
+impl Key {
+    pub fn same(self, other: Key) -> bool
+        ensures { λ r. ⌜ r ≡ same-key self other ⌝ }
+    {
+        if self.job != other.job {
+            return false;
+        }
+        self.point.0 == other.point.0
+    }
+
+    // "ascending by job and point"
+    pub fn before(self, other: Key) -> bool
+        ensures { λ r. ⌜ r ≡ key-before self other ⌝ }
+    {
+        if self.job < other.job {
+            return true;
+        }
+        if self.job != other.job {
+            return false;
+        }
+        self.point.0 < other.point.0
+    }
 }
