@@ -1,4 +1,4 @@
--- A test of each number below n, taken in a loop. Assumes nothing.
+-- Tests that a function makes: one of each number below n, in a loop, and several one after the other. Assumes nothing.
 use Prim.Native.Nat.{ℕ, zero, suc, _+_, _≤_, _<_}
 use mathlib.Core.Path.{_≡_, refl, sym, ap, _∙_}
 use mathlib.Core.Bool.{Bool, true, false, _&&_, not}
@@ -56,12 +56,12 @@ module _ {w t : Bool} {ts : List Bool} (p : HangsOn w (t ∷ ts)) where
   pub failed : t ≡ false → false ≡ w
   failed e = sym (p .hangs ∙ ap (λ (x : Bool). x && every ts) e)
 
+pub and-true : (a : Bool) → (a && true) ≡ a
+and-true true = refl
+and-true false = refl
+
 pub last-test : {w t : Bool} → HangsOn w (t ∷ []) → t ≡ w
 last-test {w} {t} p = sym (p .hangs ∙ and-true t)
-  where
-    and-true : (a : Bool) → (a && true) ≡ a
-    and-true true = refl
-    and-true false = refl
 
 -- what a call answered, of a test
 pub said-no : {r t : Bool} → r ≡ t → not r ≡ true → t ≡ false

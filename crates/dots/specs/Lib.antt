@@ -1,1 +1,2 @@
 pub mod DotsGood
+pub mod Entries

@@ -1,1 +1,199 @@
 // A block of listed dots, read and edited in the lent bytes.
+// "Kind 2, dots: 4-5 count; 8 on, entries of 8: controller, job, point (2), counter (4)"
+use numbers::Controller;
+use numbers::Counter;
+use numbers::Dot;
+use numbers::Key;
+use numbers::Point;
+ghost use mathlib.Core.Path.{_≡_};
+ghost use mathlib.Core.Bool.{true};
+ghost use Prim.Native.Nat.{_+_, _*_, _<_, _≤_};
+ghost use lib.ListN.{length};
+ghost use Rattle.numbers.specs.Words.{same-list, ascends?};
+ghost use Rattle.numbers.specs.Numbers.{Crew};
+ghost use Rattle.numbers.specs.Dot.{dot-before};
+ghost use Rattle.block.specs.Fields.{cut, field};
+ghost use Rattle.meaning.specs.State.{listed-before};
+ghost use Rattle.layout.specs.Clocks.{decode-clock};
+ghost use Rattle.layout.specs.Image.{decode-entry, encode-dots, decode-dots};
+ghost use Rattle.dots.specs.DotsGood.{dots-good};
+ghost use Rattle.dots.specs.Entries.{right-list, entry-good, Found-in};
+
+// Where a dot is listed, counted from 0.
+pub enum Found {
+    At(usize),
+    Nothing,
+}
+
+// "4-5 count"
+pub fn entry_count(b: &[u8]) -> u16
+    requires { ⌜ length (now b) ≡ 512 ⌝ }
+    ensures { λ r. ⌜ r ≡ field (now (b .entry)) 4 2 ⌝ }
+{
+    block::u16_at(b, 4)
+}
+
+// The dot of entry i: its controller is the entry's first byte, its counter the last four.
+pub fn entry_dot(b: &[u8], i: usize) -> Dot
+    requires { ⌜ (length (now b) ≡ 512) × (i < 60) ⌝ }
+    ensures { λ r. ⌜ r ≡ decode-entry (cut (now (b .entry)) (8 + 8 * i) 8) .dot ⌝ }
+{
+    let at = 8 + 8 * i;
+    Dot {
+        who: Controller(block::u8_at(b, at)),
+        count: Counter(block::u32_at(b, at + 4)),
+    }
+}
+
+// The point of entry i: its job and its number.
+pub fn entry_key(b: &[u8], i: usize) -> Key
+    requires { ⌜ (length (now b) ≡ 512) × (i < 60) ⌝ }
+    ensures { λ r. ⌜ r ≡ decode-entry (cut (now (b .entry)) (8 + 8 * i) 8) .key ⌝ }
+{
+    let at = 8 + 8 * i;
+    Key {
+        job: block::u8_at(b, at + 1),
+        point: Point(block::u16_at(b, at + 2)),
+    }
+}
+
+// Kind 2, format 1, the position, at most 60 entries, bytes 6-7 and those behind the entries zero, and the check right.
+pub fn dots_laid_out(b: &[u8], position: u16) -> bool
+    requires { ⌜ length (now b) ≡ 512 ⌝ }
+    ensures { λ r. ⌜ r ≡ same-list (encode-dots position (decode-dots (now (b .entry)))) (now (b .entry)) ⌝ }
+{
+    if block::u8_at(b, 0) != 2 {
+        return false;
+    }
+    if block::u8_at(b, 1) != 1 {
+        return false;
+    }
+    if block::u16_at(b, 2) != position {
+        return false;
+    }
+    let n = entry_count(b) as usize;
+    if 60 < n {
+        return false;
+    }
+    if !block::is_zero(b, 6, 8) {
+        return false;
+    }
+    if !block::is_zero(b, 8 + 8 * n, 508) {
+        return false;
+    }
+    block::is_sealed(b)
+}
+
+// "ascending by controller and counter"
+pub fn dot_before(d: Dot, e: Dot) -> bool
+    ensures { λ r. ⌜ r ≡ dot-before d e ⌝ }
+{
+    let p = d.who.0;
+    let q = e.who.0;
+    if p < q {
+        return true;
+    }
+    if p != q {
+        return false;
+    }
+    d.count.0 < e.count.0
+}
+
+// "own and foreign dots": the own list holds own dots only, and the foreign list none.
+fn in_its_list(mine: bool, who: Controller, own: Controller) -> bool
+    ensures { λ r. ⌜ r ≡ right-list mine own who ⌝ }
+{
+    if mine {
+        return who.0 == own.0;
+    }
+    who.0 != own.0
+}
+
+// What is asked of one listed dot: its ranges, "dots name holders of the job", its list, "every listed dot is of a held job" and "listed dots are
+// in the clock".
+pub fn entry_good(d: Dot, k: Key, mine: bool, own: Controller, table: &[u8], rows: &[u8]) -> bool
+    requires { ⌜ Crew own × (length (now table) ≡ 8) × (length (now rows) ≡ 96) ⌝ }
+    ensures { λ r. ⌜ r ≡ entry-good mine own (now (table .entry)) (decode-clock (now (rows .entry))) (record { dot = d; key = k }) ⌝ }
+{
+    let who = d.who.0;
+    let job = k.job;
+    if 7 < job {
+        return false;
+    }
+    if k.point.0 < 1 {
+        return false;
+    }
+    if who < 1 {
+        return false;
+    }
+    if 8 < who {
+        return false;
+    }
+    if d.count.0 < 1 {
+        return false;
+    }
+    if !parts::holds(table, d.who, job) {
+        return false;
+    }
+    if !in_its_list(mine, d.who, own) {
+        return false;
+    }
+    if !parts::holds(table, own, job) {
+        return false;
+    }
+    parts::in_clock(rows, d)
+}
+
+// All clauses of a good state that speak of this list alone. A dot comes after all before it where it comes after the one before it; dot 0 of
+// controller 0, which is none, comes before the first.
+pub fn dots_good(b: &[u8], mine: bool, own: Controller, table: &[u8], rows: &[u8]) -> bool
+    requires { ⌜ (length (now b) ≡ 512)
+        × (field (now b) 4 2 ≤ 60)
+        × Crew own
+        × (length (now table) ≡ 8)
+        × (length (now rows) ≡ 96) ⌝ }
+    ensures { λ r. ⌜ r ≡ dots-good mine own (now (table .entry)) (decode-clock (now (rows .entry))) (decode-dots (now (b .entry))) ⌝ }
+{
+    let n = entry_count(b) as usize;
+    let mut last = Dot {
+        who: Controller(0),
+        count: Counter(0),
+    };
+    let mut i: usize = 0;
+    while i < n {
+        let d = entry_dot(b, i);
+        if !entry_good(d, entry_key(b, i), mine, own, table, rows) {
+            return false;
+        }
+        if !dot_before(last, d) {
+            return false;
+        }
+        last = d;
+        i += 1;
+    }
+    true
+}
+
+// Where the dot is listed, by halves: it lies at `low` or behind it, and before `high`.
+pub fn find_dot(b: &[u8], d: Dot) -> Found
+    requires { ⌜ (length (now b) ≡ 512)
+        × (field (now b) 4 2 ≤ 60)
+        × (ascends? listed-before (decode-dots (now b)) ≡ true) ⌝ }
+    ensures { λ r. ⌜ Found-in (decode-dots (now (b .entry))) d r ⌝ }
+{
+    let mut low: usize = 0;
+    let mut high = entry_count(b) as usize;
+    while low < high {
+        let mid = low + (high - low) / 2;
+        let e = entry_dot(b, mid);
+        if dot_before(e, d) {
+            low = mid + 1;
+        } else {
+            if !dot_before(d, e) {
+                return Found::At(mid);
+            }
+            high = mid;
+        }
+    }
+    Found::Nothing
+}

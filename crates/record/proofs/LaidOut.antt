@@ -1,30 +1,28 @@
 -- When a point block is laid out as it should be, as the tests that the code makes. Assumes nothing.
-use Prim.Native.Nat.{ℕ, _+_, _*_, _-_, _^_, _≤_, _<_}
-use mathlib.Core.Path.{_≡_, refl, sym, ap, ap₂, _∙_, subst}
+use Prim.Native.Nat.{ℕ, _+_, _*_, _-_, _≤_, _<_}
+use mathlib.Core.Path.{_≡_, refl, sym, ap, ap₂, _∙_}
 use mathlib.Core.Bool.{Bool, true, false, _&&_}
 use mathlib.Core.List.{List, [], _∷_, _++_}
 use native.Mathlib.Omega.{arith}
-use native.Mathlib.Nat.{zero-add}
-use lib.ListN.{length, take, drop, length-append, length-take, length-drop, length-replicate}
-use lib.Seq.{drop-drop, take-all}
+use lib.ListN.{length, take, drop, length-append, length-take, length-drop}
+use lib.Seq.{take-all}
 use lib.Dec.{leb, eqb}
-use borrow.Author.Tests.{leb-true, leb-false, eq-eqb, ne-eqb, eqb-true}
-use Rattle.numbers.specs.Words.{if_then_else_, every, all?, concat-map, same-list}
+use borrow.Author.Tests.{leb-true, leb-false, eq-eqb, ne-eqb}
+use Rattle.numbers.specs.Words.{every, all?, concat-map, same-list}
 use Rattle.numbers.specs.Numbers.{counter, controller}
 use Rattle.numbers.proofs.Tests.{by-test}
-use Rattle.block.specs.Fields.{le, number, cut, field, zeros, pad, upto}
+use Rattle.block.specs.Fields.{le, number, cut, field, pad, upto}
 use Rattle.block.specs.Check.{sealed}
 use Rattle.block.specs.Block.{make-block}
 use Rattle.block.proofs.Parts.{length-cut, cut-cut, pad-length}
 use Rattle.block.proofs.Numbers.{Bytes, le-length, bytes-cut, field-bound}
-use Rattle.block.proofs.Arrays.{upto-same, upto-length, take-upto, EachOf, array-length, in-upto}
+use Rattle.block.proofs.Arrays.{upto-same, upto-length, EachOf, array-length, in-upto}
 use Rattle.block.proofs.Same.{same-itself, same-array, same-block, same-field, same-number}
-use Rattle.meaning.specs.Context.{Context}
-use Rattle.meaning.specs.Object.{Contents, value, deleted, Version}
-use Rattle.layout.specs.PointBlock.{form-1, said-length, said-bytes, encode-slot, decode-contents, decode-slot, encode-context, decode-context, encode-point, decode-point, unsent, encode-stored, decode-stored}
+use Rattle.meaning.specs.Object.{Version}
+use Rattle.layout.specs.PointBlock.{form-1, said-length, said-bytes, encode-slot, decode-contents, decode-slot, encode-context, decode-context, encode-point, decode-point, encode-stored, decode-stored}
 use Rattle.layout.proofs.PointBack.{context-length}
 use Rattle.parts.proofs.Lookup.{field-of-cut}
-use Rattle.record.proofs.Reading.{slot-at, version-at, versions-are}
+use Rattle.record.proofs.Reading.{version-at, versions-are}
 use Rattle.block.proofs.Passing.{every-true, HangsOn}
 use Rattle.record.proofs.Walk.{same-at, same-read, same-said, same-pad}
 

@@ -1,1 +1,2 @@
 pub mod RecordGood
+pub mod Crewed

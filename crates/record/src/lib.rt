@@ -5,15 +5,25 @@ use numbers::Dot;
 use numbers::Key;
 use numbers::Point;
 ghost use mathlib.Core.Path.{_≡_};
+ghost use mathlib.Core.Bool.{true, _||_};
 ghost use mathlib.Core.List.{[], _∷_};
-ghost use Prim.Native.Nat.{_+_, _*_, _≤_, _<_};
+ghost use Prim.Native.Nat.{_+_, _-_, _*_, _≤_, _<_};
 ghost use lib.ListN.{length};
 ghost use lib.Dec.{eqb};
-ghost use Rattle.numbers.specs.Words.{same-list, every};
-ghost use Rattle.numbers.specs.Numbers.{Crew};
+ghost use Rattle.numbers.specs.Words.{same-list, every, all?};
+ghost use Rattle.numbers.specs.Numbers.{controller, is-controller, Crew};
+ghost use Rattle.numbers.specs.Dot.{dot-before};
+ghost use Rattle.numbers.specs.Key.{is-key};
 ghost use Rattle.block.specs.Fields.{cut, field, upto};
-ghost use Rattle.meaning.specs.Context.{entry};
+ghost use Rattle.meaning.specs.CrewTable.{holds};
+ghost use Rattle.meaning.specs.Clock.{in-clock};
+ghost use Rattle.meaning.specs.Context.{entry, covers, fill-context};
+ghost use Rattle.meaning.specs.Object.{version-before, gone};
+ghost use Rattle.meaning.specs.Message.{version-formed, point-formed, covers-all};
+ghost use Rattle.layout.specs.Clocks.{decode-clock};
 ghost use Rattle.layout.specs.PointBlock.{form-1, encode-slot, decode-slot, encode-point, decode-point, encode-stored, decode-stored};
+ghost use Rattle.record.specs.RecordGood.{record-good};
+ghost use Rattle.record.specs.Crewed.{crewed};
 
 // "4 job; .. 6-7 point"
 pub fn key_of(b: &[u8]) -> Key
@@ -143,4 +153,259 @@ pub fn stored_laid_out(b: &[u8], position: u16) -> bool
         return false;
     }
     point_laid_out(b, 3, position)
+}
+
+// ---- what is well-formed in a point, of refusal 4 and of a good state
+
+// "controllers 1..8"
+fn is_controller(n: Controller) -> bool
+    ensures { λ r. ⌜ r ≡ is-controller n ⌝ }
+{
+    let who = n.0;
+    1 <= who && who <= 8
+}
+
+// "jobs 0..7; points 1..65535 within a job"
+fn key_formed(b: &[u8]) -> bool
+    requires { ⌜ length (now b) ≡ 512 ⌝ }
+    ensures { λ r. ⌜ r ≡ is-key (decode-point form-1 (now (b .entry)) .key) ⌝ }
+{
+    if 7 < block::u8_at(b, 4) {
+        return false;
+    }
+    1 <= block::u16_at(b, 6)
+}
+
+// The dot names a holder of the job, and a counter, 1 to 4,294,967,295. What four bytes and a slot's room hold is not too large.
+fn version_formed(b: &[u8], i: usize, table: &[u8], job: u8) -> bool
+    requires { ⌜ (length (now b) ≡ 512) × (i < 8) × (length (now table) ≡ 8) ⌝ }
+    ensures { λ r. ⌜ r ≡ version-formed (now (table .entry)) job (decode-slot form-1 (cut (now (b .entry)) (40 + 32 * i) 32)) ⌝ }
+{
+    let d = version_dot(b, i);
+    let n = d.who;
+    if !is_controller(n) {
+        return false;
+    }
+    if !parts::holds(table, n, job) {
+        return false;
+    }
+    let c = d.count;
+    let count = c.0;
+    1 <= count
+}
+
+fn each_formed(b: &[u8], count: usize, table: &[u8], job: u8) -> bool
+    requires { ⌜ (length (now b) ≡ 512) × (count ≤ 8) × (length (now table) ≡ 8) ⌝ }
+    ensures { λ r. ⌜ r ≡ every (upto count (λ i. version-formed (now (table .entry)) job (decode-slot form-1 (cut (now (b .entry)) (40 + 32 * i) 32)))) ⌝ }
+{
+    let mut i: usize = 0;
+    while i < count {
+        if !version_formed(b, i, table, job) {
+            return false;
+        }
+        i += 1;
+    }
+    true
+}
+
+// "ascending by controller and counter"
+fn dot_before(a: Dot, b: Dot) -> bool
+    ensures { λ r. ⌜ r ≡ dot-before a b ⌝ }
+{
+    let n = a.who;
+    let m = b.who;
+    let first = n.0;
+    let second = m.0;
+    if first < second {
+        return true;
+    }
+    if second < first {
+        return false;
+    }
+    let c = a.count;
+    let d = b.count;
+    c.0 < d.0
+}
+
+// "versions .. ascending by dot": each comes before the next.
+fn versions_ascend(b: &[u8], count: usize) -> bool
+    requires { ⌜ (length (now b) ≡ 512) × (count ≤ 8) ⌝ }
+    ensures { λ r. ⌜ r ≡ every (upto (count - 1) (λ i. version-before (decode-slot form-1 (cut (now (b .entry)) (40 + 32 * i) 32)) (decode-slot form-1 (cut (now (b .entry)) (40 + 32 * (i + 1)) 32)))) ⌝ }
+{
+    let mut i: usize = 0;
+    while i + 1 < count {
+        if !dot_before(version_dot(b, i), version_dot(b, i + 1)) {
+            return false;
+        }
+        i += 1;
+    }
+    true
+}
+
+// Only holders of the job are named in a context.
+fn entry_formed(b: &[u8], table: &[u8], job: u8, n: Controller) -> bool
+    requires { ⌜ (length (now b) ≡ 512) × (length (now table) ≡ 8) × Crew n ⌝ }
+    ensures { λ r. ⌜ r ≡ (holds (now (table .entry)) n job || eqb (entry (decode-point form-1 (now (b .entry)) .object .context) n .0) 0) ⌝ }
+{
+    let e = context_entry(b, n);
+    let count = e.0;
+    if count == 0 {
+        return true;
+    }
+    parts::holds(table, n, job)
+}
+
+fn entries_formed(b: &[u8], table: &[u8], job: u8) -> bool
+    requires { ⌜ (length (now b) ≡ 512) × (length (now table) ≡ 8) ⌝ }
+    ensures { λ r. ⌜ r ≡ every (upto 8 (λ i. holds (now (table .entry)) (controller (i + 1)) job || eqb (entry (decode-point form-1 (now (b .entry)) .object .context) (controller (i + 1)) .0) 0)) ⌝ }
+{
+    let mut i: u8 = 0;
+    while i < 8 {
+        if !entry_formed(b, table, job, Controller(i + 1)) {
+            return false;
+        }
+        i += 1;
+    }
+    true
+}
+
+// A well-formed point: its key, its versions and its context.
+pub fn point_formed(b: &[u8], table: &[u8]) -> bool
+    requires { ⌜ (length (now b) ≡ 512) × (field (now b) 5 1 ≤ 8) × (length (now table) ≡ 8) ⌝ }
+    ensures { λ r. ⌜ r ≡ point-formed (now (table .entry)) (decode-point form-1 (now (b .entry)) .key) (decode-point form-1 (now (b .entry)) .object) ⌝ }
+{
+    if !key_formed(b) {
+        return false;
+    }
+    let count = version_count(b) as usize;
+    let job = block::u8_at(b, 4);
+    if !each_formed(b, count, table, job) {
+        return false;
+    }
+    if !versions_ascend(b, count) {
+        return false;
+    }
+    entries_formed(b, table, job)
+}
+
+// ---- what a record's versions are to the context and to the clock
+
+// "A context covers dot (n,c) when c is at most its entry for n."
+pub fn covered_as_is(b: &[u8]) -> bool
+    requires { ⌜ (length (now b) ≡ 512) × (field (now b) 5 1 ≤ 8) × (crewed (decode-point form-1 (now b) .object .versions) ≡ true) ⌝ }
+    ensures { λ r. ⌜ r ≡ covers-all (decode-point form-1 (now (b .entry)) .object .context) (decode-point form-1 (now (b .entry)) .object .versions) ⌝ }
+{
+    let count = version_count(b) as usize;
+    let mut i: usize = 0;
+    while i < count {
+        let d = version_dot(b, i);
+        let e = context_entry(b, d.who);
+        let c = d.count;
+        if e.0 < c.0 {
+            return false;
+        }
+        i += 1;
+    }
+    true
+}
+
+// "Fill raises each context entry n, for n holding the point's job, to the base of row n": so a holder's base covers too.
+fn covered_at(b: &[u8], i: usize, table: &[u8], rows: &[u8]) -> bool
+    requires { ⌜ (length (now b) ≡ 512) × (i < 8) × (length (now table) ≡ 8) × (length (now rows) ≡ 96) × Crew (decode-slot form-1 (cut (now b) (40 + 32 * i) 32) .dot .who) ⌝ }
+    ensures { λ r. ⌜ r ≡ covers (fill-context (now (table .entry)) (field (now (b .entry)) 4 1) (decode-clock (now (rows .entry))) (decode-point form-1 (now (b .entry)) .object .context)) (decode-slot form-1 (cut (now (b .entry)) (40 + 32 * i) 32) .dot) ⌝ }
+{
+    let d = version_dot(b, i);
+    let e = context_entry(b, d.who);
+    let c = d.count;
+    if c.0 <= e.0 {
+        return true;
+    }
+    let job = block::u8_at(b, 4);
+    if !parts::holds(table, d.who, job) {
+        return false;
+    }
+    let r = parts::row_at(rows, d.who);
+    c.0 <= r.base
+}
+
+pub fn covered_filled(b: &[u8], table: &[u8], rows: &[u8]) -> bool
+    requires { ⌜ (length (now b) ≡ 512) × (field (now b) 5 1 ≤ 8) × (length (now table) ≡ 8) × (length (now rows) ≡ 96) × (crewed (decode-point form-1 (now b) .object .versions) ≡ true) ⌝ }
+    ensures { λ r. ⌜ r ≡ covers-all (fill-context (now (table .entry)) (decode-point form-1 (now (b .entry)) .key .job) (decode-clock (now (rows .entry))) (decode-point form-1 (now (b .entry)) .object .context)) (decode-point form-1 (now (b .entry)) .object .versions) ⌝ }
+{
+    let count = version_count(b) as usize;
+    let mut i: usize = 0;
+    while i < count {
+        if !covered_at(b, i, table, rows) {
+            return false;
+        }
+        i += 1;
+    }
+    true
+}
+
+// All version dots are in the clock.
+pub fn all_known(b: &[u8], rows: &[u8]) -> bool
+    requires { ⌜ (length (now b) ≡ 512) × (field (now b) 5 1 ≤ 8) × (length (now rows) ≡ 96) × (crewed (decode-point form-1 (now b) .object .versions) ≡ true) ⌝ }
+    ensures { λ r. ⌜ r ≡ all? (λ v. in-clock (decode-clock (now (rows .entry))) (v .dot)) (decode-point form-1 (now (b .entry)) .object .versions) ⌝ }
+{
+    let count = version_count(b) as usize;
+    let mut i: usize = 0;
+    while i < count {
+        if !parts::in_clock(rows, version_dot(b, i)) {
+            return false;
+        }
+        i += 1;
+    }
+    true
+}
+
+fn all_deleted(b: &[u8], count: usize) -> bool
+    requires { ⌜ (length (now b) ≡ 512) × (count ≤ 8) ⌝ }
+    ensures { λ r. ⌜ r ≡ every (upto count (λ i. eqb (field (now (b .entry)) (41 + 32 * i) 1) 255)) ⌝ }
+{
+    let mut i: usize = 0;
+    while i < count {
+        if said_length(b, i) != 255 {
+            return false;
+        }
+        i += 1;
+    }
+    true
+}
+
+// "A record goes when its stripped context is empty and no version has a value."
+pub fn is_gone(b: &[u8]) -> bool
+    requires { ⌜ (length (now b) ≡ 512) × (field (now b) 5 1 ≤ 8) ⌝ }
+    ensures { λ r. ⌜ r ≡ gone (decode-point form-1 (now (b .entry)) .object) ⌝ }
+{
+    if !block::is_zero(b, 8, 40) {
+        return false;
+    }
+    all_deleted(b, version_count(b) as usize)
+}
+
+// The clauses of a good state that speak of one record.
+pub fn record_good(b: &[u8], own: Controller, table: &[u8], rows: &[u8]) -> bool
+    requires { ⌜ (length (now b) ≡ 512) × (field (now b) 5 1 ≤ 8) × (length (now table) ≡ 8) × (length (now rows) ≡ 96) × Crew own ⌝ }
+    ensures { λ r. ⌜ r ≡ record-good own (now (table .entry)) (decode-clock (now (rows .entry))) (decode-stored form-1 (now (b .entry))) ⌝ }
+{
+    if !point_formed(b, table) {
+        return false;
+    }
+    let job = block::u8_at(b, 4);
+    if !parts::holds(table, own, job) {
+        return false;
+    }
+    if !covered_filled(b, table, rows) {
+        return false;
+    }
+    if !all_known(b, rows) {
+        return false;
+    }
+    let e = context_entry(b, own);
+    let r = parts::row_at(rows, own);
+    if r.base < e.0 {
+        return false;
+    }
+    !is_gone(b)
 }

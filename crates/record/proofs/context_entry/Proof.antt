@@ -1,13 +1,11 @@
-use borrow.Author.Needs.{needs}
+-- `record::context_entry` meets its contract. The entry is a field of the block. Assumes nothing.
 use mathlib.Core.Path.{sym, _∙_}
 use denote.Ref.{now}
+use borrow.Author.Needs.{needs}
 use Rattle.numbers.specs.Numbers.{counter}
 use Rattle.record.proofs.Reading.{entry-field}
 use Rattle.record.proofs.context_entry.Statement.{statement}
 use Rattle.record.proofs.context_entry.Tie as tie
-use Rattle.record.proofs.context_entry.Reads as reads
-use Rattle.record.proofs.context_entry.Lts as lts
-use Rattle.block.proofs.u32_at.Reads as u32-at-reads
 
 sub-u32-at : tie.Need-sub-u32-at
 sub-u32-at c = search needs

@@ -1,19 +1,16 @@
-use borrow.Author.Needs.{needs}
+-- `record::headed` meets its contract. The answer hangs on three tests. Assumes nothing.
+use Prim.Native.Nat.{ℕ}
 use mathlib.Core.Path.{refl, sym, ap, _∙_}
 use mathlib.Core.List.{List, [], _∷_}
 use mathlib.Core.Bool.{Bool}
-use Prim.Native.Nat.{ℕ}
 use denote.Ref.{now}
 use lib.Dec.{eqb}
+use borrow.Author.Needs.{needs}
 use borrow.Author.Tests.{eq-eqb, ne-eqb}
 use Rattle.block.specs.Fields.{field}
 use Rattle.block.proofs.Passing.{HangsOn, passed, failed, last-test}
 use Rattle.record.proofs.headed.Statement.{statement}
 use Rattle.record.proofs.headed.Tie as tie
-use Rattle.record.proofs.headed.Reads as reads
-use Rattle.record.proofs.headed.Lts as lts
-use Rattle.block.proofs.u16_at.Reads as u16-at-reads
-use Rattle.block.proofs.u8_at.Reads as u8-at-reads
 
 -- the three tests
 abbrev Tests : List ℕ → ℕ → ℕ → List Bool

@@ -1,12 +1,9 @@
+-- `record::key_of` meets its contract. Two fields of the block. Assumes nothing.
 use borrow.Author.Needs.{needs}
 use Rattle.numbers.specs.Numbers.{point}
 use Rattle.layout.specs.PointBlock.{decode-point}
 use Rattle.record.proofs.key_of.Statement.{statement}
 use Rattle.record.proofs.key_of.Tie as tie
-use Rattle.record.proofs.key_of.Reads as reads
-use Rattle.record.proofs.key_of.Lts as lts
-use Rattle.block.proofs.u16_at.Reads as u16-at-reads
-use Rattle.block.proofs.u8_at.Reads as u8-at-reads
 
 u8-at-requires : tie.Need-u8-at-requires
 u8-at-requires c κs = search needs

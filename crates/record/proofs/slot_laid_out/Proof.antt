@@ -1,16 +1,12 @@
-use borrow.Author.Needs.{needs}
+-- `record::slot_laid_out` meets its contract. By what the length byte says (LaidOut). Assumes nothing.
 use mathlib.Core.Path.{_∙_}
 use native.Mathlib.Omega.{arith}
 use denote.Ref.{now}
+use borrow.Author.Needs.{needs}
 use Rattle.block.proofs.Numbers.{bytes-of}
 use Rattle.record.proofs.LaidOut.{slot-gap, slot-deleted, slot-value, slot-wrong}
 use Rattle.record.proofs.slot_laid_out.Statement.{statement}
 use Rattle.record.proofs.slot_laid_out.Tie as tie
-use Rattle.record.proofs.slot_laid_out.Reads as reads
-use Rattle.record.proofs.slot_laid_out.Lts as lts
-use Rattle.block.proofs.is_zero.Reads as is-zero-reads
-use Rattle.block.proofs.u16_at.Reads as u16-at-reads
-use Rattle.block.proofs.u8_at.Reads as u8-at-reads
 
 add-u16-at : tie.Need-add-u16-at
 add-u16-at c = search needs

@@ -1,4 +1,5 @@
-use Prim.Native.Nat.{ℕ, _+_, _*_, _-_}
+-- `record::slots_laid_out` meets its contract. The invariant is `Passing`: the slots before i are laid out. Assumes nothing.
+use Prim.Native.Nat.{_+_, _*_, _-_}
 use native.Mathlib.Omega.{arith}
 use denote.Ref.{now}
 use Rattle.block.specs.Fields.{cut}
@@ -6,9 +7,6 @@ use Rattle.block.proofs.Passing.{Passing, none-passed, one-more, one-fails, all
 use Rattle.record.proofs.LaidOut.{slot-same}
 use Rattle.record.proofs.slots_laid_out.Statement.{statement}
 use Rattle.record.proofs.slots_laid_out.Tie as tie
-use Rattle.record.proofs.slots_laid_out.Reads as reads
-use Rattle.record.proofs.slots_laid_out.Lts as lts
-use Rattle.record.proofs.slot_laid_out.Reads as slot-laid-out-reads
 
 abbrev Inv-loop : tie.InvT-loop
 Inv-loop b count i₀ i = Passing count (λ k. slot-same (cut b (40 + 32 * k) 32)) i

@@ -1,15 +1,12 @@
-use borrow.Author.Needs.{needs}
+-- `record::stored_laid_out` meets its contract. A block with sender 0 that is laid out (LaidOut). Assumes nothing.
 use mathlib.Core.Path.{sym, _∙_}
 use native.Mathlib.Omega.{arith}
 use denote.Ref.{now}
+use borrow.Author.Needs.{needs}
 use Rattle.block.proofs.Numbers.{bytes-of}
 use Rattle.record.proofs.LaidOut.{stored-sent, stored-unsent}
 use Rattle.record.proofs.stored_laid_out.Statement.{statement}
 use Rattle.record.proofs.stored_laid_out.Tie as tie
-use Rattle.record.proofs.stored_laid_out.Reads as reads
-use Rattle.record.proofs.stored_laid_out.Lts as lts
-use Rattle.block.proofs.u8_at.Reads as u8-at-reads
-use Rattle.record.proofs.point_laid_out.Reads as point-laid-out-reads
 
 u8-at-requires : tie.Need-u8-at-requires
 u8-at-requires c κs = search needs

@@ -1,15 +1,12 @@
-use borrow.Author.Needs.{needs}
+-- `record::version_dot` meets its contract. Two fields of a slot. Assumes nothing.
 use Prim.Native.Nat.{_+_, _*_}
 use mathlib.Core.Path.{sym, _∙_}
 use denote.Ref.{now}
+use borrow.Author.Needs.{needs}
 use Rattle.numbers.specs.Dot.{dot}
 use Rattle.record.proofs.Reading.{slot-dot}
 use Rattle.record.proofs.version_dot.Statement.{statement}
 use Rattle.record.proofs.version_dot.Tie as tie
-use Rattle.record.proofs.version_dot.Reads as reads
-use Rattle.record.proofs.version_dot.Lts as lts
-use Rattle.block.proofs.u32_at.Reads as u32-at-reads
-use Rattle.block.proofs.u8_at.Reads as u8-at-reads
 
 mul-at : tie.Need-mul-at
 mul-at c = search needs
