@@ -37,7 +37,7 @@ pub record Shape (s : State) : Type 0 where
 
 -- ---- tests over two lists one after the other
 
-all-append : {A : Type 0} (f : A → Bool) (xs ys : List A) → all? f (xs ++ ys) ≡ (all? f xs && all? f ys)
+pub all-append : {A : Type 0} (f : A → Bool) (xs ys : List A) → all? f (xs ++ ys) ≡ (all? f xs && all? f ys)
 all-append f [] ys = refl
 all-append f (x ∷ xs) ys = ap (λ (t : Bool). f x && t) (all-append f xs ys) ∙ and-group (f x) (all? f xs) (all? f ys)
 

@@ -3,3 +3,5 @@ pub mod LaidOut
 pub mod Counted
 pub mod InOrder
 pub mod Loops
+pub mod Whole
+pub mod ListedFor

@@ -6,6 +6,7 @@ use mathlib.Core.List.{List, [], _∷_}
 use native.Mathlib.Omega.{arith}
 use native.Mathlib.Nat.{add-sub-cancel-left}
 use lib.ListN.{length, take, drop}
+use Rattle.numbers.specs.declared.Controller.{Controller}
 use Rattle.numbers.specs.declared.Dot.{Dot}
 use Rattle.numbers.specs.declared.Key.{Key}
 use Rattle.numbers.specs.Words.{every, all?, some?, ascends?, same-list}
@@ -19,9 +20,11 @@ use Rattle.block.proofs.Passing.{Passing, one-fails, all-passed, all-upto}
 use Rattle.meaning.specs.Object.{Version, has-dot}
 use Rattle.meaning.specs.State.{Stored, stored-before}
 use Rattle.laws.proofs.Putting.{stored-order}
+use Rattle.layout.specs.Clocks.{decode-clock}
 use Rattle.layout.specs.PointBlock.{form-1, decode-slot, decode-point, encode-stored, decode-stored}
-use Rattle.image.specs.Parts.{stored-laid-out}
-use Rattle.image.specs.Apart.{apart, point-at}
+use Rattle.record.specs.RecordGood.{record-good}
+use Rattle.image.specs.Parts.{stored-laid-out, Few}
+use Rattle.image.specs.Apart.{apart, point-at, apart-from-earlier}
 use Rattle.image.proofs.InOrder.{Up, up-ascends, up-one, up-more, up-fails}
 
 -- a block of the image, as it is lent
@@ -33,6 +36,14 @@ pub laid-out-part : (img : List ℕ) (k : ℕ) (r : Bool)
     → r ≡ same-list (encode-stored form-1 k (decode-stored form-1 (take (512 * k + 512 - 512 * k) (drop (512 * k) img)))) (take (512 * k + 512 - 512 * k) (drop (512 * k) img)) → r ≡ stored-laid-out img k
 unfolding stored-laid-out
 laid-out-part img k r e = e ∙ ap (λ (b : List ℕ). same-list (encode-stored form-1 k (decode-stored form-1 b)) b) (block-part img k)
+
+pub good-part : (img : List ℕ) (i : ℕ) (own : Controller) (table rows : List ℕ) (r : Bool)
+    → r ≡ record-good own table (decode-clock rows) (decode-stored form-1 (take (512 * (3 + i) + 512 - 512 * (3 + i)) (drop (512 * (3 + i)) img)))
+    → r ≡ record-good own table (decode-clock rows) (point-at img i)
+good-part img i own table rows r e = e ∙ ap (λ (b : List ℕ). record-good own table (decode-clock rows) (decode-stored form-1 b)) (block-part img (3 + i))
+
+pub few-part : (img : List ℕ) (n i : ℕ) → Few img n → i < n → field (take (512 * (3 + i) + 512 - 512 * (3 + i)) (drop (512 * (3 + i)) img)) 5 1 ≤ 8
+few-part img n i h l = subst (λ (b : List ℕ). field b 5 1 ≤ 8) (sym (block-part img (3 + i))) (h i l)
 
 -- ---- the versions of a block
 
@@ -121,3 +132,16 @@ goes-down img count i l k t =
 
 pub all-up : (img : List ℕ) (count i : ℕ) → count ≤ i → UpTo img i → true ≡ ascends? stored-before (upto count (point-at img))
 all-up img count i l h = sym (up-ascends stored-before count (point-at img) (λ a b p q. h a b p (omega arith)))
+
+-- ---- each record with those before it
+
+pub apart-parts : (img : List ℕ) (i j : ℕ) (r : Bool)
+    → r ≡ apart (decode-stored form-1 (take (512 * (3 + i) + 512 - 512 * (3 + i)) (drop (512 * (3 + i)) img))) (decode-stored form-1 (take (512 * (3 + j) + 512 - 512 * (3 + j)) (drop (512 * (3 + j)) img)))
+    → r ≡ apart (point-at img i) (point-at img j)
+apart-parts img i j r e =
+    e ∙ ap (λ (b : List ℕ). apart (decode-stored form-1 b) (decode-stored form-1 (take (512 * (3 + j) + 512 - 512 * (3 + j)) (drop (512 * (3 + j)) img)))) (block-part img (3 + i))
+    ∙ ap (λ (b : List ℕ). apart (point-at img i) (decode-stored form-1 b)) (block-part img (3 + j))
+
+pub apart-by-loop : (img : List ℕ) (j : ℕ) (r : Bool) → r ≡ every (upto j (λ i. apart (point-at img i) (point-at img j))) → r ≡ apart-from-earlier img j
+unfolding apart-from-earlier
+apart-by-loop img j r e = e
