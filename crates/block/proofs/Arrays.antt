@@ -2,12 +2,12 @@
 use Prim.Native.Nat.{ℕ, zero, suc, _+_, _*_, _-_, _≤_, _<_}
 use mathlib.Core.Path.{_≡_, refl, ap, ap₂, sym, _∙_, subst}
 use mathlib.Core.List.{List, [], _∷_, _++_, append-assoc, List·Memᴰ, List·Memᴰ·head, List·Memᴰ·tail, List·Memᴰ·not-nil, List·Memᴰ·cases-cons}
-use mathlib.Core.Logic.{⊎-elim}
+use mathlib.Core.Logic.{_⊎_, inl, inr, ⊎-elim}
 use native.Mathlib.Nat.{mul-suc, mul-zero, le-of-suc-le-suc}
 use native.Mathlib.Omega.{arith}
 use lib.ListN.{length, take, drop, getD, length-append}
 use Rattle.numbers.specs.Words.{concat-map}
-use Rattle.block.specs.Fields.{cut, upto}
+use Rattle.block.specs.Fields.{cut, splice, upto}
 use Rattle.block.proofs.Parts.{cut-past, cut-first}
 
 module _ {A : Type 0} where
@@ -40,6 +40,38 @@ module _ {A : Type 0} where
   take-upto zero n f h = refl
   take-upto (suc m) zero f h = absurd (omega arith)
   take-upto (suc m) (suc n) f h = λ k. f 0 ∷ take-upto m n (λ i. f (suc i)) (le-of-suc-le-suc h) k
+
+module _ {A : Type 0} where
+  pub in-take : (n : ℕ) (xs : List A) {v : A} → List·Memᴰ v (take n xs) → List·Memᴰ v xs
+  in-take zero xs m = absurd (List·Memᴰ·not-nil m)
+  in-take (suc n) [] m = m
+  in-take (suc n) (x ∷ xs) m = ⊎-elim List·Memᴰ·head (λ h. List·Memᴰ·tail (in-take n xs h)) (List·Memᴰ·cases-cons m)
+
+  pub in-drop : (n : ℕ) (xs : List A) {v : A} → List·Memᴰ v (drop n xs) → List·Memᴰ v xs
+  in-drop zero xs m = m
+  in-drop (suc n) [] m = m
+  in-drop (suc n) (x ∷ xs) m = List·Memᴰ·tail (in-drop n xs m)
+
+  pub getD-in : (xs : List A) (i : ℕ) (d : A) → i < length xs → List·Memᴰ (getD xs i d) xs
+  getD-in [] i d l = absurd (omega arith)
+  getD-in (x ∷ xs) zero d l = List·Memᴰ·head refl
+  getD-in (x ∷ xs) (suc i) d l = List·Memᴰ·tail (getD-in xs i d (le-of-suc-le-suc l))
+
+  in-append : (xs ys : List A) {v : A} → List·Memᴰ v (xs ++ ys) → List·Memᴰ v xs ⊎ List·Memᴰ v ys
+  in-append [] ys m = inr m
+  in-append (x ∷ xs) ys m = ⊎-elim (λ e. inl (List·Memᴰ·head e)) (λ h. ⊎-elim (λ k. inl (List·Memᴰ·tail k)) inr (in-append xs ys h)) (List·Memᴰ·cases-cons m)
+
+  -- a member of a list of which a part was put anew was one before, or is one of those that were put
+  pub in-splice : (xs : List A) (i k : ℕ) (ys : List A) {v : A} → List·Memᴰ v (splice xs i k ys) → List·Memᴰ v xs ⊎ List·Memᴰ v ys
+  in-splice xs i k ys m =
+      ⊎-elim (λ h. inl (in-take i xs h)) (λ h. ⊎-elim inr (λ g. inl (in-drop i xs (in-drop k (drop i xs) g))) (in-append ys (drop k (drop i xs)) h)) (in-append (take i xs) (ys ++ drop k (drop i xs)) m)
+
+  -- what holds of each of them holds of each still, where it holds of those that were put
+  pub all-of-splice : (P : A → Type 0) (xs : List A) (i k : ℕ) (ys : List A) → ((x : A) → List·Memᴰ x xs → P x) → ((y : A) → List·Memᴰ y ys → P y) → (x : A) → List·Memᴰ x (splice xs i k ys) → P x
+  all-of-splice P xs i k ys f g x m = ⊎-elim (f x) (g x) (in-splice xs i k ys m)
+
+  pub only : (P : A → Type 0) (y : A) → P y → (x : A) → List·Memᴰ x (y ∷ []) → P x
+  only P y p x m = ⊎-elim (λ e. subst P (sym e) p) (λ h. absurd (List·Memᴰ·not-nil h)) (List·Memᴰ·cases-cons m)
 
 -- each of a list is written in w bytes
 abbrev pub EachOf : {A : Type 0} → ℕ → (A → List ℕ) → List A → Type 0

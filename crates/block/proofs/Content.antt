@@ -8,30 +8,30 @@ use lib.ListN.{length, take, drop, length-append, length-drop}
 use lib.Seq.{take-append-le, drop-append-le, drop-append-add, take-all}
 use Rattle.block.specs.Fields.{le, number, cut, field, pad, upto}
 use Rattle.block.specs.Check.{sums, seal, sealed}
-use Rattle.block.specs.Block.{make-block, block-at, blocks}
+use Rattle.block.specs.Block.{body, make-block, block-at, blocks}
 use Rattle.block.proofs.Numbers.{le-length, number-le}
 use Rattle.block.proofs.Parts.{cut-past, cut-within, cut-first, pad-length, cut-pad}
 use Rattle.block.proofs.Checked.{seal-length, seal-sealed}
 
 module _ (kind format position : ℕ) (content : List ℕ) (short : length content ≤ 504) where
-  abbrev body : List ℕ
-  body = le 1 kind ++ (le 1 format ++ (le 2 position ++ pad 504 content))
+  abbrev here : List ℕ
+  here = body kind format position content
 
-  body-length : length body ≡ 508
+  pub body-length : length (body kind format position content) ≡ 508
   body-length = simp (length-append, le-length, pad-length 504 content short) (omega arith)
 
   pub make-block-length : length (make-block kind format position content) ≡ 512
   unfolding make-block
-  make-block-length = seal-length body body-length
+  make-block-length = seal-length here body-length
 
   pub make-block-sealed : sealed (make-block kind format position content) ≡ true
   unfolding make-block
-  make-block-sealed = seal-sealed body body-length
+  make-block-sealed = seal-sealed here body-length
 
   -- a part before the check
-  cut-body : (o n : ℕ) → o + n ≤ 508 → cut (make-block kind format position content) o n ≡ cut body o n
+  cut-body : (o n : ℕ) → o + n ≤ 508 → cut (make-block kind format position content) o n ≡ cut here o n
   unfolding make-block seal
-  cut-body o n h = cut-within body (le 2 (sums body .s1) ++ le 2 (sums body .s2)) o n (omega (arith, body-length))
+  cut-body o n h = cut-within here (le 2 (sums here .s1) ++ le 2 (sums here .s2)) o n (omega (arith, body-length))
 
   -- a part of the content, which starts at 4
   pub cut-content : (o n : ℕ) → 4 ≤ o → o - 4 + n ≤ length content → cut (make-block kind format position content) o n ≡ cut content (o - 4) n

@@ -8,7 +8,7 @@ use lib.ListN.{length, take, drop, getD, set, length-append, length-take}
 use lib.Seq.{take-add, take-at, drop-at, drop-drop}
 use Rattle.block.specs.Fields.{le, number, cut, splice, field}
 use Rattle.block.proofs.Numbers.{le-length}
-use Rattle.block.proofs.Parts.{length-cut}
+use Rattle.block.proofs.Parts.{length-cut, splice-append}
 
 -- the next power, times h
 up : (n h : ℕ) → 256 ^ suc n * h ≡ 256 * (256 ^ n * h)
@@ -54,19 +54,11 @@ module _ (m n : ℕ) (b : List ℕ) (a : ℕ) where
       ∙ number-append (cut b a m) (cut b (a + m) n)
       ∙ rw (length-cut b a m fits, p, q))
 
-  -- two parts put one behind the other are one part
-  pub splice-append : (x y : List ℕ) → a + m ≤ length b → length x ≡ m → splice (splice b a m x) (a + m) n y ≡ splice b a (m + n) (x ++ y)
-  splice-append x y fits size =
-      let front : length (take a b ++ x) ≡ a + m = simp (length-append, length-take) (omega arith) in
-      let rest : List ℕ = drop m (drop a b) in
-      rw (← append-assoc (take a b) x rest, take-at (take a b ++ x) rest (a + m) front, drop-at (take a b ++ x) rest (a + m) front, drop-drop n m (drop a b))
-      (append-assoc (take a b) x (y ++ drop (m + n) (drop a b)) ∙ ap (λ (l : List ℕ). take a b ++ l) (sym (append-assoc x y (drop (m + n) (drop a b)))))
-
   -- what two writes make
-  pub put-halves : (v : ℕ) {x y : List ℕ} → a + m ≤ length b → x ≡ splice b a m (le m (v % 256 ^ m)) → y ≡ splice x (a + m) n (le n (v / 256 ^ m))
+  pub put-halves : (v : ℕ) {x y : List ℕ} → a + m + n ≤ length b → x ≡ splice b a m (le m (v % 256 ^ m)) → y ≡ splice x (a + m) n (le n (v / 256 ^ m))
       → y ≡ splice b a (m + n) (le (m + n) v)
   put-halves v {x} {y} fits p q =
       q
       ∙ ap (λ (l : List ℕ). splice l (a + m) n (le n (v / 256 ^ m))) p
-      ∙ splice-append (le m (v % 256 ^ m)) (le n (v / 256 ^ m)) fits (le-length m (v % 256 ^ m))
+      ∙ splice-append b a m n (le m (v % 256 ^ m)) (le n (v / 256 ^ m)) fits (le-length m (v % 256 ^ m)) (le-length n (v / 256 ^ m))
       ∙ ap (splice b a (m + n)) (le-append m n (v % 256 ^ m) (v / 256 ^ m) (mod-lt v (one-le-pow m 256 (omega arith))) ∙ ap (le (m + n)) (mod-add-div v (256 ^ m)))

@@ -7,5 +7,8 @@ pub mod Same
 pub mod Halves
 pub mod Summing
 pub mod Copies
+pub mod Moves
+pub mod Edits
+pub mod Resealed
 pub mod Scans
 pub mod Passing

@@ -71,3 +71,9 @@ bytes-cut b a n h = bytes-take n (drop a b) (bytes-drop a b h)
 pub field-bound : (b : List ℕ) (o n : ℕ) → Bytes b → o + n ≤ length b → field b o n < 256 ^ n
 unfolding field
 field-bound b o n h l = subst (λ (m : ℕ). number (cut b o n) < 256 ^ m) (length-cut b o n l) (number-bound (cut b o n) (bytes-cut b o n h))
+
+-- the bytes of a field are the part that it is read from
+pub le-field : (b : List ℕ) (o n : ℕ) → Bytes b → o + n ≤ length b → le n (field b o n) ≡ cut b o n
+unfolding field
+le-field b o n h l =
+    subst (λ (m : ℕ). le m (number (cut b o n)) ≡ cut b o n) (length-cut b o n l) (le-number (cut b o n) (bytes-cut b o n h))

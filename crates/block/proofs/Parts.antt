@@ -5,7 +5,7 @@ use mathlib.Core.List.{List, [], _∷_, _++_, append-assoc}
 use native.Mathlib.Nat.{add-sub-cancel-left, suc-add, zero-add}
 use native.Mathlib.Omega.{arith}
 use lib.ListN.{length, take, drop, replicate, length-take, length-drop, length-append, length-replicate, drop-of-length-le}
-use lib.Seq.{take-append-le, drop-append-le, take-take, take-at, drop-at, drop-drop, take-nil, take-all, drop-append-add}
+use lib.Seq.{take-append-le, drop-append-le, take-take, take-at, drop-at, drop-drop, take-nil, take-all, take-add, take-append-add, drop-append-add}
 use Rattle.block.specs.Fields.{cut, splice, pad, upto}
 
 module _ {A : Type 0} where
@@ -45,6 +45,10 @@ module _ {A : Type 0} where
       ∙ sym (take-drop m c (drop a l))
       ∙ ap (take m) (drop-drop c a l)
 
+  -- two parts one behind the other are one
+  pub cut-join : (l : List A) (a m n : ℕ) → cut l a (m + n) ≡ cut l a m ++ cut l (a + m) n
+  cut-join l a m n = take-add m n (drop a l) ∙ ap (λ (x : List A). cut l a m ++ take n x) (drop-drop m a l)
+
   -- ---- one part put anew
 
   module _ (l : List A) (a n : ℕ) (b : List A) (fits : a + n ≤ length l) (size : length b ≡ n) where
@@ -60,8 +64,8 @@ module _ {A : Type 0} where
     splice-at : drop a (splice l a n b) ≡ b ++ drop n (drop a l)
     splice-at = drop-at (take a l) (b ++ drop n (drop a l)) a la
 
-    splice-past : (x : ℕ) → drop (a + (n + x)) (splice l a n b) ≡ drop (a + (n + x)) l
-    splice-past x =
+    splice-rest : (x : ℕ) → drop (a + (n + x)) (splice l a n b) ≡ drop (a + (n + x)) l
+    splice-rest x =
         sym (drop-drop (n + x) a (splice l a n b))
         ∙ ap (drop (n + x)) splice-at
         ∙ sym (drop-drop x n (b ++ drop n (drop a l)))
@@ -72,7 +76,7 @@ module _ {A : Type 0} where
     pub splice-drop : (e : ℕ) → a + n ≤ e → drop e (splice l a n b) ≡ drop e l
     splice-drop e h =
         let q : e ≡ a + (n + (e - a - n)) = omega arith in
-        rw q (splice-past (e - a - n))
+        rw q (splice-rest (e - a - n))
 
     pub splice-same : cut (splice l a n b) a n ≡ b
     splice-same = ap (take n) splice-at ∙ take-at b (drop n (drop a l)) n size
@@ -86,10 +90,41 @@ module _ {A : Type 0} where
     pub splice-again : (y : List A) → splice (splice l a n b) a n y ≡ splice l a n y
     splice-again y = rw (splice-take a (omega arith), splice-at, drop-at b (drop n (drop a l)) n size)
 
+  -- two parts put anew one behind the other are one part, whichever is put first
+  module _ (l : List A) (a m n : ℕ) (x y : List A) (fits : a + m + n ≤ length l) (first : length x ≡ m) (second : length y ≡ n) where
+    pub splice-append : splice (splice l a m x) (a + m) n y ≡ splice l a (m + n) (x ++ y)
+    splice-append =
+        let front : length (take a l ++ x) ≡ a + m = simp (length-append, length-take) (omega arith) in
+        let rest : List A = drop m (drop a l) in
+        rw (← append-assoc (take a l) x rest, take-at (take a l ++ x) rest (a + m) front, drop-at (take a l ++ x) rest (a + m) front, drop-drop n m (drop a l))
+        (append-assoc (take a l) x (y ++ drop (m + n) (drop a l)) ∙ ap (λ (z : List A). take a l ++ z) (sym (append-assoc x y (drop (m + n) (drop a l)))))
+
+    pub splice-prepend : splice (splice l (a + m) n y) a m x ≡ splice l a (m + n) (x ++ y)
+    splice-prepend =
+        ap₂ (λ (u v : List A). u ++ (x ++ v)) (splice-take l (a + m) n y fits second a (omega arith))
+        (drop-drop m a (splice l (a + m) n y) ∙ splice-at l (a + m) n y fits second ∙ ap (λ (z : List A). y ++ drop n z) (sym (drop-drop m a l)) ∙ ap (λ (z : List A). y ++ z) (drop-drop n m (drop a l)))
+        ∙ ap (λ (z : List A). take a l ++ z) (sym (append-assoc x y (drop (m + n) (drop a l))))
+
+  -- ---- one part of an append put anew
+
   -- in an append, the middle put anew
   pub splice-middle : (x y z : List A) (a n : ℕ) (b : List A) → length x ≡ a → length y ≡ n → splice (x ++ (y ++ z)) a n b ≡ x ++ (b ++ z)
   splice-middle x y z a n b p q =
       rw (take-at x (y ++ z) a p, drop-at x (y ++ z) a p, drop-at y z n q)
+
+  -- behind the first list, and within it
+  pub splice-past : (a b : List A) (m o n : ℕ) (y : List A) → length a ≡ m → splice (a ++ b) (m + o) n y ≡ a ++ splice b o n y
+  splice-past a b m o n y e =
+      let q : m + o ≡ length a + o = omega arith in
+      ap₂ (λ (u v : List A). u ++ (y ++ drop n v)) (ap (λ (i : ℕ). take i (a ++ b)) q ∙ take-append-add a b o) (ap (λ (i : ℕ). drop i (a ++ b)) q ∙ drop-append-add a b o)
+      ∙ append-assoc a (take o b) (y ++ drop n (drop o b))
+
+  pub splice-within : (a b : List A) (o n : ℕ) (y : List A) → o + n ≤ length a → splice (a ++ b) o n y ≡ splice a o n y ++ b
+  splice-within a b o n y h =
+      ap₂ (λ (u v : List A). u ++ (y ++ v)) (take-append-le o a b (omega arith))
+      (ap (drop n) (drop-append-le o a b (omega arith)) ∙ drop-append-le n (drop o a) b (omega (arith, length-drop o a)))
+      ∙ ap (λ (z : List A). take o a ++ z) (sym (append-assoc y (drop n (drop o a)) b))
+      ∙ sym (append-assoc (take o a) (y ++ drop n (drop o a)) b)
 
   -- what a part that is lent is, and what the whole is when it comes back
   pub part-is : (s : List A) (a n : ℕ) → take (a + n - a) (drop a s) ≡ cut s a n

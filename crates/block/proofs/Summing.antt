@@ -10,9 +10,8 @@ use Rattle.block.specs.declared.Sums.{Sums}
 use Rattle.block.specs.Fields.{le, number, splice, field}
 use Rattle.block.specs.Check.{add-word, sums-from, sums, seal}
 use Rattle.block.proofs.Numbers.{le-length}
-use Rattle.block.proofs.Parts.{cut-cut}
+use Rattle.block.proofs.Parts.{cut-cut, splice-append}
 use Rattle.block.proofs.Checked.{sums-bound}
-use Rattle.block.proofs.Halves.{splice-append}
 
 -- plain sums, with the remainder taken
 abbrev pub reduced : ℕ → ℕ → Sums
@@ -62,5 +61,5 @@ module _ (b : List ℕ) where
       let none : drop 4 (drop 508 b) ≡ [] = drop-of-length-le (drop 508 b) {i = 4} (simp length-drop (omega arith)) in
       q
       ∙ ap (λ (l : List ℕ). splice l 510 2 (le 2 (s .s2))) p
-      ∙ splice-append 2 2 b 508 (le 2 (s .s1)) (le 2 (s .s2)) (omega arith) (le-length 2 (s .s1))
+      ∙ splice-append b 508 2 2 (le 2 (s .s1)) (le 2 (s .s2)) (omega arith) (le-length 2 (s .s1)) (le-length 2 (s .s2))
       ∙ rw (none, append-nil (le 2 (s .s1) ++ le 2 (s .s2)), take-take 508 508 b (omega arith), e)

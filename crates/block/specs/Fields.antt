@@ -20,6 +20,16 @@ cut l a n = take n (drop a l)
 abbrev pub splice : {A : Type 0} → List A → ℕ → ℕ → List A → List A
 splice l a n b = take a l ++ (b ++ drop n (drop a l))
 
+-- a list with its i-th put anew, with one more before its i-th, without its i-th
+abbrev pub put-at : {A : Type 0} → List A → ℕ → A → List A
+put-at l i x = splice l i 1 (x ∷ [])
+
+abbrev pub insert-at : {A : Type 0} → List A → ℕ → A → List A
+insert-at l i x = splice l i 0 (x ∷ [])
+
+abbrev pub remove-at : {A : Type 0} → List A → ℕ → List A
+remove-at l i = splice l i 1 []
+
 -- the number of n bytes from a on
 unfoldable pub field : List ℕ → ℕ → ℕ → ℕ
 field b a n = number (cut b a n)

@@ -1,6 +1,6 @@
 // A block of 512 bytes: its little-endian fields and its check. Definitions in specs/, laws in proofs/.
 ghost use mathlib.Core.Path.{_≡_};
-ghost use Prim.Native.Nat.{_+_, _-_, _≤_};
+ghost use Prim.Native.Nat.{_+_, _-_, _*_, _≤_};
 ghost use lib.ListN.{length, take, replicate};
 ghost use lib.Dec.{eqb};
 ghost use Rattle.numbers.specs.Words.{all?, same-list};
@@ -181,14 +181,29 @@ pub fn copy_in(out: &mut [u8], at: usize, src: &[u8])
     }
 }
 
-// The 512 bytes at `from` over those at `to`, either way; `from` and `to` are at least 512 apart.
-pub fn copy_block(run: &mut [u8], from: usize, to: usize)
-    requires { ⌜ (512 ≤ (from - to) + (to - from)) × (from + 512 ≤ length (now run)) × (to + 512 ≤ length (now run)) ⌝ }
-    ensures { λ _. ⌜ now (run .exit) ≡ splice (now (run .entry)) to 512 (cut (now (run .entry)) from 512) ⌝ }
+// Eight bytes `words` times, from `from` on, over those from `to` on, which lies no lower. The two parts may overlap: the last eight go
+// first.
+pub fn move_up(run: &mut [u8], from: usize, to: usize, words: usize)
+    requires { ⌜ (from ≤ to) × (to + 8 * words ≤ length (now run)) ⌝ }
+    ensures { λ _. ⌜ now (run .exit) ≡ splice (now (run .entry)) to (8 * words) (cut (now (run .entry)) from (8 * words)) ⌝ }
 {
-    let mut i: usize = 0;
-    while i < 512 {
-        run[to + i] = run[from + i];
-        i += 1;
+    let mut k = words;
+    while 0 < k {
+        k -= 1;
+        let eight = u64_at(run, from + 8 * k);
+        put_u64(run, to + 8 * k, eight);
+    }
+}
+
+// The same to a place that lies no higher: the first eight go first.
+pub fn move_down(run: &mut [u8], from: usize, to: usize, words: usize)
+    requires { ⌜ (to ≤ from) × (from + 8 * words ≤ length (now run)) ⌝ }
+    ensures { λ _. ⌜ now (run .exit) ≡ splice (now (run .entry)) to (8 * words) (cut (now (run .entry)) from (8 * words)) ⌝ }
+{
+    let mut k: usize = 0;
+    while k < words {
+        let eight = u64_at(run, from + 8 * k);
+        put_u64(run, to + 8 * k, eight);
+        k += 1;
     }
 }

@@ -4,3 +4,4 @@ pub mod Laid
 pub mod Entry
 pub mod Good
 pub mod Search
+pub mod Edits

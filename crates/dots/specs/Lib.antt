@@ -1,2 +1,3 @@
 pub mod DotsGood
 pub mod Entries
+pub mod DotsBlock

@@ -12,10 +12,12 @@ ghost use lib.ListN.{length};
 ghost use Rattle.numbers.specs.Words.{same-list, ascends?};
 ghost use Rattle.numbers.specs.Numbers.{Crew};
 ghost use Rattle.numbers.specs.Dot.{dot-before};
-ghost use Rattle.block.specs.Fields.{cut, field};
+ghost use Rattle.block.specs.Fields.{cut, splice, insert-at, remove-at, field};
+ghost use Rattle.block.specs.Block.{Laid};
 ghost use Rattle.meaning.specs.State.{listed-before};
 ghost use Rattle.layout.specs.Clocks.{decode-clock};
-ghost use Rattle.layout.specs.Image.{decode-entry, encode-dots, decode-dots};
+ghost use Rattle.layout.specs.Image.{encode-entry, decode-entry, encode-dots, decode-dots};
+ghost use Rattle.dots.specs.DotsBlock.{lay-dots, dots-block, with-dots};
 ghost use Rattle.dots.specs.DotsGood.{dots-good};
 ghost use Rattle.dots.specs.Entries.{right-list, entry-good, Found-in};
 
@@ -196,4 +198,42 @@ pub fn find_dot(b: &[u8], d: Dot) -> Found
         }
     }
     Found::Nothing
+}
+
+// ---- edits: the list holds other dots and is laid out still, but for its check, which is made after the last of them
+
+// Entry i: "controller, job, point (2), counter (4)".
+fn write_entry(b: &mut [u8], i: usize, d: Dot, k: Key)
+    requires { ⌜ (length (now b) ≡ 512) × (i < 60) ⌝ }
+    ensures { λ _. ⌜ now (b .exit) ≡ splice (now (b .entry)) (8 + 8 * i) 8 (encode-entry (record { dot = d; key = k })) ⌝ }
+{
+    let at = 8 + 8 * i;
+    block::put_u8(b, at, d.who.0);
+    block::put_u8(b, at + 1, k.job);
+    block::put_u16(b, at + 2, k.point.0);
+    block::put_u32(b, at + 4, d.count.0);
+}
+
+// One more dot, before entry i.
+pub fn insert_dot(b: &mut [u8], i: usize, d: Dot, k: Key)
+    requires { ⌜ (length (now b) ≡ 512) × Laid lay-dots dots-block (now b) × (i ≤ length (decode-dots (now b))) × (length (decode-dots (now b)) < 60) ⌝ }
+    ensures { λ _. ⌜ (dots-block (now (b .exit)) ≡ with-dots (dots-block (now (b .entry))) (insert-at (decode-dots (now (b .entry))) i (record { dot = d; key = k }))) × Laid lay-dots dots-block (now (b .exit)) ⌝ }
+{
+    let n = entry_count(b) as usize;
+    let at = 8 + 8 * i;
+    block::move_up(b, at, at + 8, n - i);
+    write_entry(b, i, d, k);
+    block::put_u16(b, 4, (n + 1) as u16);
+}
+
+// Entry i goes.
+pub fn remove_dot(b: &mut [u8], i: usize)
+    requires { ⌜ (length (now b) ≡ 512) × Laid lay-dots dots-block (now b) × (i < length (decode-dots (now b))) ⌝ }
+    ensures { λ _. ⌜ (dots-block (now (b .exit)) ≡ with-dots (dots-block (now (b .entry))) (remove-at (decode-dots (now (b .entry))) i)) × Laid lay-dots dots-block (now (b .exit)) ⌝ }
+{
+    let n = entry_count(b) as usize;
+    let at = 8 + 8 * i;
+    block::move_down(b, at + 8, at, n - i - 1);
+    block::clear(b, 8 * n, 8 * n + 8);
+    block::put_u16(b, 4, (n - 1) as u16);
 }

@@ -4,3 +4,4 @@ pub mod Again
 pub mod Laid
 pub mod Marks
 pub mod Clauses
+pub mod Edits

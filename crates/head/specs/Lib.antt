@@ -1,2 +1,3 @@
 pub mod HeadGood
 pub mod HeadParts
+pub mod HeadEdits

@@ -7,12 +7,14 @@ ghost use mathlib.Core.Bool.{_||_};
 ghost use lib.ListN.{length};
 ghost use Rattle.numbers.specs.Words.{same-list};
 ghost use Rattle.numbers.specs.Numbers.{Crew, same-controller};
+ghost use Rattle.block.specs.Block.{Laid};
 ghost use Rattle.meaning.specs.CrewTable.{share-job};
 ghost use Rattle.meaning.specs.Clock.{every-row};
 ghost use Rattle.meaning.specs.State.{mark};
 ghost use Rattle.meaning.specs.Message.{is-none};
 ghost use Rattle.layout.specs.Clocks.{decode-clock};
 ghost use Rattle.layout.specs.Image.{encode-head, decode-head, decode-marks};
+ghost use Rattle.head.specs.HeadEdits.{put-row, put-mark};
 ghost use Rattle.head.specs.HeadGood.{head-good};
 ghost use Rattle.head.specs.HeadParts.{head-of-parts, row-good, rows-allowed, marks-row-allowed, marks-allowed, own-row-known, own-column};
 
@@ -246,4 +248,31 @@ pub fn head_good(b: &[u8]) -> bool
     ensures { λ r. ⌜ r ≡ head-good (decode-head (now (b .entry))) ⌝ }
 {
     parts_good(own_of(b), &b[8..16], &b[16..112], &b[112..368])
+}
+
+// ---- edits: the head says something else and is laid out still, but for its check, which is made after the last of them
+
+// Controller n's row.
+pub fn set_row(b: &mut [u8], n: Controller, r: Row)
+    requires { ⌜ (length (now b) ≡ 512) × Crew n × Laid encode-head decode-head (now b) ⌝ }
+    ensures { λ _. ⌜ (decode-head (now (b .exit)) ≡ put-row (decode-head (now (b .entry))) n r) × Laid encode-head decode-head (now (b .exit)) ⌝ }
+{
+    let who = n.0;
+    let at = 16 + 12 * ((who - 1) as usize);
+    block::put_u32(b, at, r.base);
+    block::put_u64(b, at + 4, r.bits);
+}
+
+// The base of n's row that m is known to have.
+pub fn set_mark(b: &mut [u8], m: Controller, n: Controller, base: u32)
+    requires { ⌜ (length (now b) ≡ 512) × Crew m × Crew n × Laid encode-head decode-head (now b) ⌝ }
+    ensures { λ _. ⌜ (decode-head (now (b .exit)) ≡ put-mark (decode-head (now (b .entry))) m n base) × Laid encode-head decode-head (now (b .exit)) ⌝ }
+{
+    let of = m.0;
+    let about = n.0;
+    block::put_u32(
+        b,
+        112 + 32 * ((of - 1) as usize) + 4 * ((about - 1) as usize),
+        base,
+    );
 }

@@ -37,7 +37,7 @@ said-few : (n : ℕ) (bytes : List ℕ) (m : ℕ) → length bytes ≡ m → len
 unfolding decode-contents
 said-few n bytes m e = by-test (eqb n 255) (λ t. rw t (omega arith)) (λ t. rw t (omega (arith, length-take n bytes)))
 
-slot-decoded : (b : List ℕ) → Bytes b → length b ≡ 32 → SlotSized form-1 (decode-slot form-1 b)
+pub slot-decoded : (b : List ℕ) → Bytes b → length b ≡ 32 → SlotSized form-1 (decode-slot form-1 b)
 unfolding decode-slot
 slot-decoded b h e = record {
   who = field-bound b 0 1 h (omega arith);
@@ -45,7 +45,7 @@ slot-decoded b h e = record {
   said = said-few (field b 1 1) (cut b 8 24) 24 (length-cut b 8 24 (omega arith));
 }
 
-context-decoded : (b : List ℕ) → Bytes b → length b ≡ 32 → ContextSized (decode-context b)
+pub context-decoded : (b : List ℕ) → Bytes b → length b ≡ 32 → ContextSized (decode-context b)
 unfolding decode-context
 context-decoded b h e = record {
   eight = upto-length 8 (λ i. counter (field b (4 * i) 4));
@@ -81,7 +81,7 @@ module _ (b : List ℕ) (h : Bytes b) (e : length b ≡ 512) where
 
 -- ---- the lists
 
-entry-decoded : (b : List ℕ) → Bytes b → length b ≡ 8 → EntrySized (decode-entry b)
+pub entry-decoded : (b : List ℕ) → Bytes b → length b ≡ 8 → EntrySized (decode-entry b)
 unfolding decode-entry
 entry-decoded b h e = record {
   who = field-bound b 0 1 h (omega arith);
@@ -101,7 +101,7 @@ dots-decoded b h e = record {
 
 -- ---- the head
 
-row-decoded : (b : List ℕ) → Bytes b → length b ≡ 12 → RowSized (decode-row b)
+pub row-decoded : (b : List ℕ) → Bytes b → length b ≡ 12 → RowSized (decode-row b)
 unfolding decode-row
 row-decoded b h e = (field-bound b 0 4 h (omega arith), field-bound b 4 8 h (omega arith))
 

@@ -145,32 +145,32 @@ module _ (position : ℕ) (ls : List Listed) (S : DotsSized ls) where
   abbrev entries : List ℕ
   entries = concat-map encode-entry ls
 
-  entries-length : length entries ≡ 8 * length ls
+  pub entries-length : length entries ≡ 8 * length ls
   entries-length = array-length 8 encode-entry ls (λ l m. entry-length l)
 
-  abbrev dots : List ℕ
-  dots = le 2 (length ls) ++ (le 2 0 ++ entries)
+  abbrev dots-content : List ℕ
+  dots-content = le 2 (length ls) ++ (le 2 0 ++ entries)
 
-  dots-content-length : length dots ≡ 4 + 8 * length ls
+  pub dots-content-length : length dots-content ≡ 4 + 8 * length ls
   dots-content-length = simp (length-append, le-length) (omega (arith, entries-length))
 
-  dots-short : length dots ≤ 504
+  pub dots-short : length dots-content ≤ 504
   dots-short = omega (arith, dots-content-length, S .few)
 
   pub dots-length : length (encode-dots position ls) ≡ 512
   unfolding encode-dots
-  dots-length = make-block-length 2 1 position dots dots-short
+  dots-length = make-block-length 2 1 position dots-content dots-short
 
-  number-at : field (encode-dots position ls) 4 2 ≡ length ls
+  pub dots-number : field (encode-dots position ls) 4 2 ≡ length ls
   unfolding encode-dots
-  number-at =
-      field-is _ 4 2 (length ls) (cut-content 2 1 position dots dots-short 4 2 (omega arith) (omega (arith, dots-content-length)) ∙ cut-first (le 2 (length ls)) (le 2 0 ++ entries) 2 (le-length 2 (length ls)))
+  dots-number =
+      field-is _ 4 2 (length ls) (cut-content 2 1 position dots-content dots-short 4 2 (omega arith) (omega (arith, dots-content-length)) ∙ cut-first (le 2 (length ls)) (le 2 0 ++ entries) 2 (le-length 2 (length ls)))
       (omega (arith, S .few))
 
   entry-at : (i : ℕ) → i < length ls → cut (encode-dots position ls) (8 + 8 * i) 8 ≡ cut (entries ++ []) (8 * i) 8
   unfolding encode-dots
   entry-at i h =
-      cut-content 2 1 position dots dots-short (8 + 8 * i) 8 (omega arith) (omega (arith, dots-content-length))
+      cut-content 2 1 position dots-content dots-short (8 + 8 * i) 8 (omega arith) (omega (arith, dots-content-length))
       ∙ cut-past (le 2 (length ls)) (le 2 0 ++ entries) 2 (8 + 8 * i - 4) 8 (le-length 2 (length ls)) (omega arith)
       ∙ cut-past (le 2 0) entries 2 (8 + 8 * i - 4 - 2) 8 (le-length 2 0) (omega arith)
       ∙ ap₂ (λ (x : List ℕ) (o : ℕ). cut x o 8) (sym (append-nil entries)) back
@@ -181,7 +181,7 @@ module _ (position : ℕ) (ls : List Listed) (S : DotsSized ls) where
   pub dots-back : decode-dots (encode-dots position ls) ≡ ls
   unfolding decode-dots
   dots-back =
-      ap (λ (n : ℕ). take n (upto most-listed (λ i. decode-entry (cut (encode-dots position ls) (8 + 8 * i) 8)))) number-at
+      ap (λ (n : ℕ). take n (upto most-listed (λ i. decode-entry (cut (encode-dots position ls) (8 + 8 * i) 8)))) dots-number
       ∙ take-upto (length ls) most-listed (λ i. decode-entry (cut (encode-dots position ls) (8 + 8 * i) 8)) (S .few)
       ∙ upto-same (length ls) (λ i. decode-entry (cut (encode-dots position ls) (8 + 8 * i) 8)) (λ i. decode-entry (cut (entries ++ []) (8 * i) 8)) (λ i h. ap decode-entry (entry-at i h))
       ∙ array-back 8 encode-entry decode-entry ls [] (λ l m. entry-length l) (λ l m. entry-back l (S .each l m))
@@ -205,14 +205,14 @@ module _ (h : Head) (S : HeadSized h) where
   abbrev head-content : List ℕ
   head-content = le 1 (h .own .0) ++ (le 3 0 ++ (table-part ++ from-clock))
 
-  table-length : length table-part ≡ 8
+  pub table-length : length table-part ≡ 8
   table-length = array-length 1 (le 1) (h .table) (λ x m. le-length 1 x) ∙ omega (arith, S .table-eight)
 
-  head-content-length : length head-content ≡ 364
+  pub head-content-length : length head-content ≡ 364
   head-content-length =
       simp (length-append, le-length, table-length, clock-length (h .clock) (S .clock .eight), marks-length (h .watermark) (S .marks)) (omega arith)
 
-  head-short : length head-content ≤ 504
+  pub head-short : length head-content ≤ 504
   head-short = omega (arith, head-content-length)
 
   pub head-length : length (encode-head h) ≡ 512

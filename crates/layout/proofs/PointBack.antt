@@ -149,20 +149,20 @@ module _ (f : Form) (roomy : Roomy f) (kind position : ℕ) (m : Outgoing) (S : 
   abbrev content : List ℕ
   content = le 1 (m .key .job) ++ from-number
 
-  each-slot : EachOf (slot-size f) (encode-slot f) (m .object .versions)
+  pub each-slot : EachOf (slot-size f) (encode-slot f) (m .object .versions)
   each-slot v h = slot-length f roomy v (S .versions v h)
 
-  slots-length : length slots ≡ slot-size f * length (m .object .versions)
+  pub slots-length : length slots ≡ slot-size f * length (m .object .versions)
   slots-length = array-length (slot-size f) (encode-slot f) (m .object .versions) each-slot
 
-  slots-fit : length slots ≤ slot-size f * 8
+  pub slots-fit : length slots ≤ slot-size f * 8
   slots-fit = subst (λ (n : ℕ). n ≤ slot-size f * 8) (sym slots-length) (mul-le-mul-left (slot-size f) (S .few))
 
-  content-length : length content ≡ 37 + slot-size f * 8
+  pub content-length : length content ≡ 37 + slot-size f * 8
   content-length =
       simp (length-append, le-length, context-length (m .object .context) (S .context .eight), pad-length (slot-size f * 8) slots slots-fit) (omega arith)
 
-  short : length content ≤ 504
+  pub short : length content ≤ 504
   short = omega (arith, content-length)
 
   b : List ℕ
