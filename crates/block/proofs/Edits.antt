@@ -4,7 +4,7 @@ use mathlib.Core.Path.{_≡_, refl, ap, ap₂, sym, _∙_, subst}
 use mathlib.Core.List.{List, [], _∷_, _++_, append-assoc, append-nil, List·Memᴰ·not-nil}
 use native.Mathlib.Nat.{mul-suc, mul-add, mul-one, mul-le-mul-left}
 use native.Mathlib.Omega.{arith}
-use lib.ListN.{length, take, drop, getD, take-append-drop, length-append, length-take, length-drop, length-replicate, replicate-append-replicate}
+use lib.ListN.{length, take, drop, getD, drop-of-length-le, take-append-drop, length-append, length-take, length-drop, length-replicate, replicate-append-replicate}
 use lib.Seq.{drop-at, drop-cons, drop-append-add, take-at}
 use Rattle.numbers.specs.Words.{concat-map}
 use Rattle.block.specs.Fields.{le, cut, splice, put-at, insert-at, remove-at, zeros, pad}
@@ -209,7 +209,11 @@ unfolding pad
 splice-pad m l o n y h e =
     splice-within l (zeros (m - length l)) o n y h ∙ ap (λ (k : ℕ). splice l o n y ++ zeros (m - k)) (sym (splice-length l o n y h e))
 
-zeros-drop : (w n : ℕ) → w ≤ n → drop w (zeros n) ≡ zeros (n - w)
+-- a cleared run is zeros, whatever it was
+pub cleared : (b : List ℕ) (n : ℕ) → length b ≡ n → splice b 0 n (zeros n) ≡ zeros n
+cleared b n e = ap (λ (l : List ℕ). zeros n ++ l) (drop-of-length-le b {i = n} (omega arith)) ∙ append-nil (zeros n)
+
+pub zeros-drop : (w n : ℕ) → w ≤ n → drop w (zeros n) ≡ zeros (n - w)
 zeros-drop w n h =
     ap (λ (k : ℕ). drop w (zeros k)) all ∙ ap (drop w) (sym (replicate-append-replicate {A = ℕ} w (n - w) 0)) ∙ drop-at (zeros w) (zeros (n - w)) w (length-replicate {A = ℕ} w 0)
   where

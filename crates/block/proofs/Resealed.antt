@@ -49,8 +49,8 @@ pub body-put : {b y x : List ℕ} (a n : ℕ) (z : List ℕ) → Body b y → a 
 body-put {b} {y} {x} a n z B h e d = record {
   size = ap length d ∙ splice-length b a n z (omega (arith, B .size)) e ∙ B .size;
   is = ap (take 508) d ∙ ap (take 508) (ap (λ (l : List ℕ). splice l a n z) (sym (lib.ListN.take-append-drop 508 b)) ∙ splice-within (take 508 b) (drop 508 b) a n z (omega (arith, front b (B .size))))
-  ∙ take-at (splice (take 508 b) a n z) (drop 508 b) 508 (splice-length (take 508 b) a n z (omega (arith, front b (B .size))) e ∙ front b (B .size))
-  ∙ ap (λ (l : List ℕ). splice l a n z) (B .is);
+      ∙ take-at (splice (take 508 b) a n z) (drop 508 b) 508 (splice-length (take 508 b) a n z (omega (arith, front b (B .size))) e ∙ front b (B .size))
+      ∙ ap (λ (l : List ℕ). splice l a n z) (B .is);
 }
 
 -- what a part before the check is

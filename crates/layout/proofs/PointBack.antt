@@ -262,6 +262,10 @@ module _ (f : Form) (roomy : Roomy f) (kind position : ℕ) (m : Outgoing) (S : 
       (λ i. decode-slot f (cut (slots ++ replicate (slot-size f * 8 - length slots) 0) (slot-size f * i) (slot-size f))) (λ i l. ap (decode-slot f) (slot-at i (omega (arith, S .few))))
       ∙ array-back (slot-size f) (encode-slot f) (decode-slot f) (m .object .versions) (replicate (slot-size f * 8 - length slots) 0) each-slot (λ v h. slot-back f roomy v (S .versions v h))
 
+  pub point-number : field (encode-point f kind position m) 5 1 ≡ length (m .object .versions)
+  unfolding b
+  point-number = number-at
+
   pub point-back : decode-point f (encode-point f kind position m) ≡ m
   unfolding decode-point b
   point-back = λ i.

@@ -3,3 +3,5 @@ pub mod Walk
 pub mod LaidOut
 pub mod Formed
 pub mod Questions
+pub mod Stores
+pub mod Edits

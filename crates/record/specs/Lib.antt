@@ -1,2 +1,3 @@
 pub mod RecordGood
 pub mod Crewed
+pub mod Written

@@ -4,7 +4,7 @@ use mathlib.Core.Path.{_≡_, refl, ap, ap₂, sym, _∙_, subst}
 use mathlib.Core.Bool.{Bool, true, false, _&&_, not}
 use mathlib.Core.List.{List, [], _∷_, _++_, append-nil, append-assoc, List·Memᴰ, List·Memᴰ·head, List·Memᴰ·tail}
 use native.Mathlib.Omega.{arith}
-use lib.ListN.{length, take, drop, drop-of-length-le, length-append, length-drop}
+use lib.ListN.{length, take, drop, length-append, length-drop}
 use lib.Seq.{drop-drop, take-at, drop-at}
 use Rattle.numbers.specs.Words.{concat-map}
 use Rattle.numbers.specs.Numbers.{controller, each}
@@ -13,13 +13,10 @@ use Rattle.block.specs.Check.{seal}
 use Rattle.block.specs.Block.{make-block}
 use Rattle.block.proofs.Parts.{splice-middle}
 use Rattle.block.proofs.Numbers.{Bytes}
+use Rattle.block.proofs.Edits.{cleared}
 use Rattle.meaning.specs.OwnSteps.{fresh}
 use Rattle.layout.specs.Clocks.{encode-row, encode-clock}
 use Rattle.layout.specs.Image.{image-length, encode-marks, head-of, encode-head, encode-entry, encode-dots, encode-points, encode}
-
--- a cleared block is zeros, whatever it was
-pub cleared : (b : List ℕ) (n : ℕ) → length b ≡ n → splice b 0 n (zeros n) ≡ zeros n
-cleared b n e = ap (λ (l : List ℕ). zeros n ++ l) (drop-of-length-le b {i = n} (omega arith)) ∙ append-nil (zeros n)
 
 -- ---- a list of no dots, by the stores that make it
 
