@@ -6,10 +6,7 @@
  *
  * Exit: 0 no mismatch, 1 a mismatch, 2 not a whole stream. */
 
-#include <stdint.h>
-#include <stdio.h>
-#include <stdlib.h>
-#include <string.h>
+#include "stream.h"
 
 /* A slice is a pointer and a size_t; a context's length is its number of counters. */
 uint32_t sqimrutta_start(uint8_t *image, size_t image_len, uint8_t number, const uint8_t *table, size_t table_len);
@@ -25,66 +22,10 @@ uint32_t sqimrutta_reply(const uint8_t *image, size_t image_len, const uint8_t *
 uint32_t sqimrutta_repair(uint8_t *image, size_t image_len, const uint8_t *reply, size_t reply_len);
 uint32_t sqimrutta_strip_pass(uint8_t *image, size_t image_len, uint32_t *count);
 
-enum { SLOTS = 64, SLOT_BYTES = 65536, NO_SLOT = 255 };
-
-static uint8_t slots[SLOTS][SLOT_BYTES];
-static size_t lengths[SLOTS];
 /* The working buffers: image, input, context, buffer to write to. */
 static uint8_t work[4][SLOT_BYTES];
 static uint32_t counters[SLOT_BYTES / 4];
-static char label[SLOT_BYTES + 1];
 static uint64_t calls;
-
-static void broken(const char *what) {
-    fprintf(stderr, "not a whole stream: %s\n", what);
-    exit(2);
-}
-
-static void take(void *bytes, size_t length) {
-    if (length > 0 && fread(bytes, 1, length, stdin) != length)
-        broken("it stops early");
-}
-
-static uint32_t number(const uint8_t *bytes, int length) {
-    uint32_t result = 0;
-    for (int i = 0; i < length; i++)
-        result |= (uint32_t)bytes[i] << (8 * i);
-    return result;
-}
-
-/* Any record but a call and the end. */
-static void other(const uint8_t *head) {
-    uint8_t slot = head[1], from = head[2];
-    uint32_t first = number(head + 4, 4), second = number(head + 8, 4);
-    if (slot >= SLOTS || from >= SLOTS || first > SLOT_BYTES || second > SLOT_BYTES)
-        broken("a slot or length out of range");
-    switch (head[0]) {
-    case 16:
-        take(slots[slot], first);
-        lengths[slot] = first;
-        break;
-    case 17:
-        if (first + second > lengths[slot])
-            broken("a patch past the end");
-        take(slots[slot] + first, second);
-        break;
-    case 18:
-        memmove(slots[slot], slots[from], lengths[from]);
-        lengths[slot] = lengths[from];
-        break;
-    case 19:
-        if (first > lengths[slot])
-            memset(slots[slot] + lengths[slot], 0, first - lengths[slot]);
-        lengths[slot] = first;
-        break;
-    case 20:
-        take(label, first);
-        label[first] = 0;
-        break;
-    default:
-        broken("an unknown record");
-    }
-}
 
 static void mismatch(const uint8_t *head, const char *what, unsigned long is, unsigned long must) {
     printf("call %llu (number %u, about: %s): %s: is %lu, recorded is %lu\n", (unsigned long long)calls, head[0], label,
@@ -155,15 +96,11 @@ static void call(const uint8_t *head) {
 
 int main(void) {
     uint8_t head[16];
-    take(head, 16);
-    if (memcmp(head, "SQIMRUTTA CASES1", 16) != 0)
-        broken("the first 16 bytes");
+    open_stream();
     for (;;) {
         take(head, 16);
         if (head[0] == 0) {
-            uint64_t recorded = (uint64_t)number(head + 12, 4) << 32 | number(head + 8, 4);
-            if (recorded != calls)
-                broken("the number of calls");
+            at_end(head, calls);
             printf("%llu calls, no mismatch\n", (unsigned long long)calls);
             return 0;
         }

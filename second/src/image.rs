@@ -24,6 +24,11 @@ pub fn decode(image: &[u8]) -> Option<State> {
     (encode(&state) == image && state.is_good()).then_some(state)
 }
 
+/// Whether these bytes, of any length, are a good image.
+pub fn is_good(bytes: &[u8]) -> bool {
+    bytes.len() == IMAGE && decode(bytes).is_some()
+}
+
 /// The image of a state.
 pub fn encode(state: &State) -> Vec<u8> {
     let mut image = Vec::with_capacity(IMAGE);

@@ -13,6 +13,7 @@ pub mod crew;
 pub mod explore;
 pub mod flaws;
 pub mod image;
+pub mod images;
 pub mod madeup;
 pub mod messages;
 pub mod names;

@@ -146,6 +146,44 @@ pub fn good_state(random: &mut Random) -> State {
     state
 }
 
+/// A good state with no room left: 64 points with that many versions each, 60 own and 60 foreign dots.
+pub fn full_state(random: &mut Random, versions: usize) -> State {
+    let own = some_controller(random);
+    let mut state = State::fresh(own, Table([255; EIGHT]));
+    for n in Controller::all() {
+        // Room for an eighth of 64 times 8 version dots, and for 60 listed ones before those.
+        let base = MOST_POINTS + MOST_LISTED + random.below(1000);
+        state.clock.0[n.index()] = Row::up_to(Counter(base as u64));
+    }
+    let before_base = |state: &State, n: Controller, back: usize| {
+        let counter = Counter(state.clock.row(n).base().0 - back as u64);
+        Dot { controller: n, counter }
+    };
+    let mut dots = (0..).flat_map(|back| Controller::all().map(move |n| (n, back)));
+    let mut home = BTreeMap::new();
+    while state.points.len() < MOST_POINTS {
+        let Some(point) = any_point(random, &state).filter(|point| !state.points.contains_key(point)) else { continue };
+        let mut object = Object { context: some_context(random, &state, point.job), ..Object::default() };
+        for (n, back) in dots.by_ref().take(versions) {
+            let value = Value::new(&[random.below(256) as u8; 24]).expect("24 at most");
+            let dot = before_base(&state, n, back);
+            object.versions.insert(dot, Content::Value(value));
+            home.insert(dot, point);
+        }
+        state.points.insert(point, object);
+    }
+    let points: Vec<Point> = state.points.keys().copied().collect();
+    let offset = random.below(MOST_LISTED);
+    let others: Vec<Controller> = Controller::all().filter(|&n| n != own).collect();
+    for number in 0..MOST_LISTED {
+        let ours = before_base(&state, own, offset + number);
+        let theirs = before_base(&state, others[number % others.len()], offset + number / others.len());
+        state.own_dots.insert(ours, *home.get(&ours).unwrap_or_else(|| random.pick(&points)));
+        state.foreign_dots.insert(theirs, *home.get(&theirs).unwrap_or_else(|| random.pick(&points)));
+    }
+    state
+}
+
 fn add_records(random: &mut Random, state: &mut State) {
     let many = match random.below(8) {
         0 => 0,

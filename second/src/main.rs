@@ -3,6 +3,7 @@
 use second::cases::cases;
 use second::crew::Shape;
 use second::explore::{explore, Tiny};
+use second::images::images;
 use second::print::print;
 use second::simulate::{simulate, Settings};
 use second::store::{Looked, Second, Store};
@@ -21,6 +22,9 @@ usage:
   second cases [--seed N] [--count N] [--stats]
       writes a stream of recorded calls to standard output (CASES.md describes it);
       --stats tells on standard error how many calls of each kind gave which answer
+  second images [--seed N] [--count N] [--stats]
+      writes a stream of images, good ones and others, each with the verdict whether it is good;
+      --stats tells on standard error how many of each kind were good
   second replay [--stats] [--look] [FILE]
       reads such a stream from the file, or from standard input, makes its calls and compares;
       --look also looks whether each accepted call leaves a good image
@@ -56,6 +60,7 @@ fn main() -> ExitCode {
         "simulate" => run_simulate(&options),
         "explore" => run_explore(&options),
         "cases" => run_cases(&options),
+        "images" => run_images(&options),
         "replay" => run_replay(&options),
         "print" => run_print(),
         "refusals" => run_refusals(),
@@ -158,6 +163,17 @@ fn run_cases(options: &Options) -> Result<(), Failure> {
     let answers = cases(&Second, options.seed, options.count, out)?;
     if options.stats {
         eprint!("{}", table(&answers));
+    }
+    Ok(())
+}
+
+fn run_images(options: &Options) -> Result<(), Failure> {
+    let out = BufWriter::with_capacity(1 << 20, io::stdout().lock());
+    let tally = images(options.seed, options.count, out)?;
+    if options.stats {
+        for (kind, [bad, good]) in tally {
+            eprintln!("{kind:60} good {good:7} not good {bad:7}");
+        }
     }
     Ok(())
 }

@@ -1,11 +1,16 @@
-//! The nine calls as one thing that can be handed around, so that the simulator can be run on other stores than ours: the
+//! The nine calls, and the question whether an image is good, as one thing that can be handed around, so that the simulator can be run on other stores than ours: the
 //! tests run it on stores with a planted fault, to see that it notices.
 
 use crate::calls;
+use crate::image;
 use crate::refusal::Refusal;
 
-/// The nine calls. By default they are this program's.
+/// The nine calls and the question. By default they are this program's.
 pub trait Store {
+    /// See [`image::is_good`].
+    fn good(&self, image: &[u8]) -> bool {
+        image::is_good(image)
+    }
     /// See [`calls::start`].
     fn start(&self, image: &mut [u8], number: u8, table: &[u8]) -> Result<(), Refusal> {
         calls::start(image, number, table)

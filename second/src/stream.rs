@@ -21,6 +21,7 @@ pub const NO_SLOT: u8 = 255;
 /// The first byte of the records that are not calls.
 mod tag {
     pub const END: u8 = 0;
+    pub const GOOD: u8 = 10;
     pub const SET: u8 = 16;
     pub const PATCH: u8 = 17;
     pub const COPY: u8 = 18;
@@ -103,9 +104,9 @@ pub struct Recorder<'a, W: Write> {
     store: &'a dyn Store,
     out: W,
     slots: Slots,
-    /// How many calls were recorded.
+    /// How many calls and questions were recorded.
     pub calls: u64,
-    /// How many of them gave which answer.
+    /// How many of the calls gave which answer.
     pub answers: Answers,
 }
 
@@ -206,6 +207,16 @@ impl<'a, W: Write> Recorder<'a, W> {
         Ok((answer, count))
     }
 
+    /// Asks whether the bytes of a slot are a good image, and records the answer.
+    pub fn good(&mut self, slot: u8) -> io::Result<bool> {
+        let good = self.store.good(self.slot(slot));
+        let mut head = [0u8; 16];
+        head[..3].copy_from_slice(&[tag::GOOD, u8::from(good), slot]);
+        self.out.write_all(&head)?;
+        self.calls += 1;
+        Ok(good)
+    }
+
     /// Closes the stream.
     pub fn end(mut self) -> io::Result<Answers> {
         let mut head = [0u8; 16];
@@ -241,9 +252,9 @@ fn differences(before: &[u8], after: &[u8]) -> Vec<(usize, usize)> {
 /// What was replayed.
 #[derive(Clone, Debug, Default)]
 pub struct Replayed {
-    /// How many calls.
+    /// How many calls and questions.
     pub calls: u64,
-    /// How many of them gave which answer.
+    /// How many of the calls gave which answer.
     pub answers: Answers,
 }
 
@@ -295,9 +306,30 @@ pub fn replay(store: &dyn Store, mut stream: impl Read) -> Result<Replayed, Repl
         }
         match Op::numbered(head[0]) {
             Some(op) => replay_call(store, &mut stream, &mut slots, &head, op, &label, &mut replayed)?,
+            None if head[0] == tag::GOOD => replay_good(store, &slots, &head, &label, &mut replayed)?,
             None => replay_other(&mut stream, &mut slots, &head, &mut label)?,
         }
     }
+}
+
+/// The question whether a slot holds a good image.
+fn replay_good(
+    store: &dyn Store,
+    slots: &Slots,
+    head: &[u8; 16],
+    label: &str,
+    replayed: &mut Replayed,
+) -> Result<(), ReplayError> {
+    if usize::from(head[2]) >= SLOTS {
+        return Err(ReplayError::Stream("a lent slot out of range".into()));
+    }
+    replayed.calls += 1;
+    let good = store.good(slots.get(head[2]));
+    if u8::from(good) != head[1] {
+        let what = format!("question {} (about: {label}): good is {good}, recorded is {}", replayed.calls, head[1]);
+        return Err(ReplayError::Mismatch(what));
+    }
+    Ok(())
 }
 
 /// A record that is no call.

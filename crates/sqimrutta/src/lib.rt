@@ -6,8 +6,10 @@ ghost use Prim.Native.Nat.{_≤_, _<_};
 ghost use mathlib.Core.List.{[]};
 ghost use lib.ListN.{length};
 ghost use Rattle.numbers.specs.Numbers.{controller};
+ghost use Rattle.numbers.specs.Words.{if_then_else_};
+ghost use Rattle.refusal.specs.Refusal.{answer-number};
 ghost use Rattle.meaning.specs.OwnSteps.{fresh};
-ghost use Rattle.layout.specs.Image.{image-length, head-of, encode-head, encode-dots, encode};
+ghost use Rattle.layout.specs.Image.{image-length, head-of, encode-head, encode-dots, encode, goodImage};
 ghost use Rattle.layout.specs.Calls.{start-call};
 
 // A fresh head: the own number and the table, and nothing seen.
@@ -63,4 +65,23 @@ pub fn start(image: &mut [u8], number: u8, table: &[u8]) -> Verdict
     }
     write_fresh(image, number, table);
     Verdict::Accepted
+}
+
+// For C: a slice is a pointer and a size_t. "An accepted call returns 0", a refused one the refusal's number.
+#[no_mangle]
+pub extern "C" fn sqimrutta_start(image: &mut [u8], number: u8, table: &[u8]) -> u32
+    ensures { λ r. ⌜ (r ≡ answer-number (start-call (now (image .entry)) number (now (table .entry)) .verdict)) × (now (image .exit) ≡ start-call (now (image .entry)) number (now (table .entry)) .image) ⌝ }
+{
+    start(image, number, table).number()
+}
+
+// Whether these bytes are a good image: 1 or 0, on any bytes of any length.
+#[no_mangle]
+pub extern "C" fn sqimrutta_good(image: &[u8]) -> u32
+    ensures { λ r. ⌜ r ≡ (if goodImage (now (image .entry)) then 1 else 0) ⌝ }
+{
+    if image::good(image) {
+        return 1;
+    }
+    0
 }

@@ -1,0 +1,46 @@
+/* Calls sqimrutta_good on three images, each in a function of its own, so that callgrind counts them apart, and beside them the
+ * bare check sums. bench/run builds and runs it.
+ *
+ * Standard input: the first three images of `second images` (a fresh one, a full one with one version a point, a full one
+ * with eight). */
+
+#include "../second/stream.h"
+
+uint32_t sqimrutta_good(const uint8_t *image, size_t image_len);
+
+/* checks.c, built twice */
+uint32_t bare_checks(const uint8_t *image);
+uint32_t bare_checks_unrolled(const uint8_t *image);
+
+enum { IMAGE = 67 * 512 };
+
+static uint8_t fresh[IMAGE], one[IMAGE], eight[IMAGE];
+
+#define APART __attribute__((noinline))
+
+APART uint32_t good_fresh(void) { return sqimrutta_good(fresh, IMAGE); }
+APART uint32_t good_one(void) { return sqimrutta_good(one, IMAGE); }
+APART uint32_t good_eight(void) { return sqimrutta_good(eight, IMAGE); }
+
+/* The next image of the stream. */
+static void next_image(uint8_t *to) {
+    uint8_t head[16];
+    for (take(head, 16); head[0] != 10; take(head, 16))
+        other(head);
+    if (lengths[head[2]] != IMAGE)
+        broken("an image of another length");
+    memcpy(to, slots[head[2]], IMAGE);
+}
+
+int main(void) {
+    uint8_t head[16];
+    open_stream();
+    next_image(fresh);
+    next_image(one);
+    next_image(eight);
+    take(head, 16);
+    at_end(head, 3);
+    printf("good: fresh %u, one version %u, eight versions %u; right checks: %u %u\n", good_fresh(), good_one(),
+           good_eight(), bare_checks(one), bare_checks_unrolled(one));
+    return 0;
+}
