@@ -10,5 +10,6 @@ pub mod Copies
 pub mod Moves
 pub mod Edits
 pub mod Resealed
+pub mod Places
 pub mod Scans
 pub mod Passing

@@ -103,6 +103,10 @@ points-are img =
     ap (map (decode-stored form-1)) (until-prefix most-points (λ i. block-at img (3 + i)))
     ∙ map-upto (decode-stored form-1) (length (until-zero (upto most-points (λ i. block-at img (3 + i))))) (λ i. block-at img (3 + i))
 
+pub points-few : (img : List ℕ) → length (decode img .points) ≤ most-points
+points-few img =
+    subst (λ (ps : List Stored). length ps ≤ most-points) (sym (points-are img)) (omega (arith, stored-few img, upto-length (stored-count img) (λ i. decode-stored form-1 (block-at img (3 + i)))))
+
 -- ---- what every image of bytes has
 
 module _ (img : List ℕ) (h : Bytes img) (e : length img ≡ image-length) where
@@ -127,11 +131,8 @@ module _ (img : List ℕ) (h : Bytes img) (e : length img ≡ image-length) wher
         marks-rows = in-all (λ r. eqb (length r) 8) (decode-head (block-at img 0) .watermark) (λ r m. eq-eqb (length r) 8 (H .marks .rows r m));
         own-few = dots-decoded (block-at img 1) (block-bytes 1) (block-ok 1 (omega arith)) .few;
         foreign-few = dots-decoded (block-at img 2) (block-bytes 2) (block-ok 2 (omega arith)) .few;
-        points-few = subst (λ (ps : List Stored). length ps ≤ most-points) (sym (points-are′)) (omega (arith, stored-few img, upto-length (stored-count img) (λ i. decode-stored form-1 (block-at img (3 + i)))));
+        points-few = points-few img;
       }
-    where
-      points-are′ : map (decode-stored form-1) (until-zero (upto most-points (λ i. block-at img (3 + i)))) ≡ upto (stored-count img) (λ i. decode-stored form-1 (block-at img (3 + i)))
-      points-are′ = points-are img
 
   -- an image is good just where its blocks are laid out and its parts are good
   pub good-image-by-parts : goodImage img ≡ (parts-laid-out img && parts-good (decode img))

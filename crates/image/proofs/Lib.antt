@@ -5,3 +5,7 @@ pub mod InOrder
 pub mod Loops
 pub mod Whole
 pub mod ListedFor
+pub mod Blocks
+pub mod Moved
+pub mod Opening
+pub mod Closing

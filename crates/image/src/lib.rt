@@ -9,14 +9,15 @@ ghost use Prim.Native.Nat.{_+_, _≤_, _<_};
 ghost use lib.ListN.{length};
 ghost use Rattle.numbers.specs.Words.{every, ascends?};
 ghost use Rattle.numbers.specs.Numbers.{Crew};
-ghost use Rattle.block.specs.Fields.{cut, field, upto};
-ghost use Rattle.meaning.specs.Object.{has-dot};
+ghost use Rattle.block.specs.Fields.{cut, insert-at, remove-at, field, upto};
+ghost use Rattle.meaning.specs.Object.{has-dot, no-object};
 ghost use Rattle.meaning.specs.State.{stored-before, listed-before};
 ghost use Rattle.layout.specs.PointBlock.{form-1, decode-stored};
 ghost use Rattle.layout.specs.Clocks.{decode-clock};
 ghost use Rattle.layout.specs.Image.{image-length, decode, decode-dots, goodImage};
 ghost use Rattle.record.specs.RecordGood.{record-good};
 ghost use Rattle.image.specs.Parts.{stored-count, stored-laid-out, Few, Ascending, parts-laid-out, parts-good};
+ghost use Rattle.image.specs.Edits.{Canonical, with-points};
 ghost use Rattle.image.specs.Apart.{apart, apart-from-earlier, point-at, dot-listed-for, listed-for, all-apart};
 
 // The number of stored points: "then points .., then blocks of zeros", so up to the first block of kind 0.
@@ -274,4 +275,45 @@ pub fn good(image: &[u8]) -> bool
         return false;
     }
     parts_good(image)
+}
+
+// ---- edits: from one canonical image to another
+
+// A place for the point k before the i-th: those from the i-th on move up by a block and say where they stand now; an empty record
+// stands there.
+pub fn open_place(image: &mut [u8], count: usize, i: usize, k: Key)
+    requires { ⌜ (length (now image) ≡ image-length) × Canonical (now image) × (count ≡ length (decode (now image) .points)) × (i ≤ count) × (count < 64) ⌝ }
+    ensures { λ _. ⌜ (decode (now (image .exit)) ≡ with-points (decode (now (image .entry))) (insert-at (decode (now (image .entry)) .points) i (record { key = k; object = no-object })))
+        × Canonical (now (image .exit)) ⌝ }
+{
+    let mut j = count;
+    while i < j {
+        let at = 512 * (3 + j);
+        block::move_up(image, at - 512, at, 64);
+        record::renumber(&mut image[at..at + 512], (3 + j) as u16);
+        j -= 1;
+    }
+    let free = 512 * (3 + i);
+    record::write_empty(
+        &mut image[free..free + 512],
+        3,
+        (3 + i) as u16,
+        Controller(0),
+        k,
+    );
+}
+
+// The i-th point goes: those behind it move down by a block, and a block of zeros follows the last.
+pub fn close_place(image: &mut [u8], count: usize, i: usize)
+    requires { ⌜ (length (now image) ≡ image-length) × Canonical (now image) × (count ≡ length (decode (now image) .points)) × (i < count) ⌝ }
+    ensures { λ _. ⌜ (decode (now (image .exit)) ≡ with-points (decode (now (image .entry))) (remove-at (decode (now (image .entry)) .points) i)) × Canonical (now (image .exit)) ⌝ }
+{
+    let mut j = i;
+    while j + 1 < count {
+        let at = 512 * (3 + j);
+        block::move_down(image, at + 512, at, 64);
+        record::renumber(&mut image[at..at + 512], (3 + j) as u16);
+        j += 1;
+    }
+    block::clear(image, 512 * (2 + count), 512 * (3 + count));
 }

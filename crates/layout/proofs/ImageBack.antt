@@ -390,7 +390,7 @@ module _ (s : State) (S : Sized s) where
       simp (length-append, length-replicate, head-length (head-of s) (S .head), dots-length 1 (s .own-dots) (S .own), dots-length 2 (s .foreign-dots) (S .foreign), points-length 3 (s .points) (S .points))
       (omega (arith, S .few))
 
-  block-0 : block-at (encode s) 0 ≡ encode-head (head-of s)
+  pub block-0 : block-at (encode s) 0 ≡ encode-head (head-of s)
   unfolding encode
   block-0 = block-first (encode-head (head-of s)) (encode-dots 1 (s .own-dots) ++ (encode-dots 2 (s .foreign-dots) ++ points-part)) (head-length (head-of s) (S .head))
 
@@ -401,13 +401,13 @@ module _ (s : State) (S : Sized s) where
   after-own : (k : ℕ) → block-at (encode s) (suc (suc k)) ≡ block-at (encode-dots 2 (s .foreign-dots) ++ points-part) k
   after-own k = after-head (suc k) ∙ block-next (encode-dots 1 (s .own-dots)) (encode-dots 2 (s .foreign-dots) ++ points-part) k (dots-length 1 (s .own-dots) (S .own))
 
-  block-1 : block-at (encode s) 1 ≡ encode-dots 1 (s .own-dots)
+  pub block-1 : block-at (encode s) 1 ≡ encode-dots 1 (s .own-dots)
   block-1 = after-head 0 ∙ block-first (encode-dots 1 (s .own-dots)) (encode-dots 2 (s .foreign-dots) ++ points-part) (dots-length 1 (s .own-dots) (S .own))
 
-  block-2 : block-at (encode s) 2 ≡ encode-dots 2 (s .foreign-dots)
+  pub block-2 : block-at (encode s) 2 ≡ encode-dots 2 (s .foreign-dots)
   block-2 = after-own 0 ∙ block-first (encode-dots 2 (s .foreign-dots)) points-part (dots-length 2 (s .foreign-dots) (S .foreign))
 
-  block-3 : (i : ℕ) → block-at (encode s) (3 + i) ≡ block-at points-part i
+  pub block-3 : (i : ℕ) → block-at (encode s) (3 + i) ≡ block-at points-part i
   block-3 i =
       ap (block-at (encode s)) there ∙ after-own (suc i) ∙ block-next (encode-dots 2 (s .foreign-dots)) points-part i (dots-length 2 (s .foreign-dots) (S .foreign))
     where

@@ -17,12 +17,14 @@ use Rattle.block.proofs.Parts.{splice-length, splice-past, splice-middle, pad-l
 use Rattle.block.proofs.Arrays.{upto-same, all-of-splice, only}
 use Rattle.block.proofs.Content.{body-length, kind-of, position-of}
 use Rattle.block.proofs.Edits.{pad-past, array-put, inside-insert, inside-remove}
-use Rattle.block.proofs.Resealed.{Body, cut-resealed, field-resealed, body-of, body-put, body-move, body-resealed, edited}
+use Rattle.block.proofs.Resealed.{Body, cut-resealed, field-resealed, body-of, body-put, body-move, body-resealed, sealed-body, edited}
 use Rattle.meaning.specs.Context.{Context}
 use Rattle.meaning.specs.Object.{Version, Object}
+use Rattle.meaning.specs.State.{Stored}
 use Rattle.meaning.specs.Message.{Outgoing}
-use Rattle.layout.specs.PointBlock.{form-1, encode-slot, decode-slot, encode-context, decode-context, encode-point, decode-point}
+use Rattle.layout.specs.PointBlock.{form-1, encode-slot, decode-slot, encode-context, decode-context, encode-point, decode-point, unsent, encode-stored, decode-stored}
 use Rattle.layout.proofs.PointBack.{SlotSized, slot-length, ContextSized, context-length, PointSized, slots-length, slots-fit, short, point-back, point-number}
+use Rattle.layout.proofs.ImageBack.{StoredSized}
 use Rattle.layout.proofs.Decoded.{slot-decoded, point-decoded}
 use Rattle.record.specs.Written.{Written, lay-point, point-block, with-versions, put-entry, relabelled}
 
@@ -347,3 +349,19 @@ module _ (b : List ℕ) (small : Bytes b) (size : length b ≡ 512) (laid : Laid
 
         done : splice (splice (around vs) (40 + 32 * i) (32 * (length vs - i - 1)) (cut (around vs) (40 + 32 * i + 32) (32 * (length vs - i - 1)))) (40 + 32 * (length vs - 1)) 32 (zeros 32) ≡ around (remove-at vs i)
         done = inside-remove 32 256 (encode-slot form-1) vs each-slot front (last w) 40 front-length (omega (arith, P .few)) i low
+
+-- ---- a stored point
+
+-- a block that is laid out, its check too, is so but for its check
+pub laid-as : (w : Written) → Sized w → (b : List ℕ) → length b ≡ 512 → b ≡ lay-point w → Laid lay-point point-block b
+laid-as w S b size e =
+    becomes w S b
+    (subst (Body b) (bytes-are w S)
+    (sealed-body (body (w .kind) 1 (w .position) (content (w .point))) b size (body-length (w .kind) 1 (w .position) (content (w .point)) (short form-1 (omega arith) 0 0 (w .point) (S .point))) (e ∙ (unfold encode-point make-block in refl)))) .1
+
+pub stored-laid : (position : ℕ) (p : Stored) (b : List ℕ) → position < 65536 → StoredSized p → length b ≡ 512 → b ≡ encode-stored form-1 position p → Laid lay-point point-block b
+stored-laid position p b h S size e = laid-as (record { kind = 3; position = position; point = unsent p }) (record { kind = omega arith; position = h; point = S }) b size (e ∙ (unfold encode-stored in refl))
+
+pub renumbered : (b b1 x : List ℕ) (position : ℕ) → (point-block b1 ≡ relabelled (point-block b) 3 position (controller 0)) × Laid lay-point point-block b1 → x ≡ seal (take 508 b1) → x ≡ encode-stored form-1 position (decode-stored form-1 b)
+unfolding encode-stored decode-stored resealed
+renumbered b b1 x position r e = e ∙ r .1 ∙ ap lay-point (r .0)

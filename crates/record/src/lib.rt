@@ -499,3 +499,12 @@ pub fn remove_version(b: &mut [u8], i: usize)
     block::clear(b, 8 + 32 * n, 40 + 32 * n);
     block::put_u8(b, 5, (n - 1) as u8);
 }
+
+// A record that was moved says where it stands now; its check is made anew.
+pub fn renumber(b: &mut [u8], position: u16)
+    requires { ⌜ (length (now b) ≡ 512) × Laid lay-point point-block (now b) ⌝ }
+    ensures { λ _. ⌜ now (b .exit) ≡ encode-stored form-1 position (decode-stored form-1 (now (b .entry))) ⌝ }
+{
+    relabel(b, 3, position, Controller(0));
+    block::seal_block(b);
+}
