@@ -15,11 +15,11 @@ use Rattle.block.proofs.Parts.{splice-length, splice-past, splice-middle, splic
 use Rattle.block.proofs.Arrays.{upto-same, all-of-splice, only}
 use Rattle.block.proofs.Content.{body-length, position-of}
 use Rattle.block.proofs.Edits.{pad-past, inside-insert, inside-remove}
-use Rattle.block.proofs.Resealed.{Body, cut-resealed, field-resealed, body-of, body-put, body-move, body-resealed, edited}
+use Rattle.block.proofs.Resealed.{Body, cut-resealed, field-resealed, body-of, body-put, body-move, body-resealed, sealed-body, edited}
 use Rattle.meaning.specs.State.{Listed}
 use Rattle.meaning.specs.Settle.{most-listed}
 use Rattle.layout.specs.Image.{encode-entry, decode-entry, encode-dots, decode-dots}
-use Rattle.layout.proofs.ImageBack.{EntrySized, entry-length, DotsSized, dots-short, dots-back, dots-number}
+use Rattle.layout.proofs.ImageBack.{EntrySized, entry-length, DotsSized, dots-short, dots-length, dots-back, dots-number}
 use Rattle.layout.proofs.Decoded.{dots-decoded}
 use Rattle.dots.specs.DotsBlock.{DotsBlock, lay-dots, dots-block, with-dots}
 
@@ -94,6 +94,36 @@ entry-put b b1 b2 b3 x at d k room p1 p2 p3 p4 =
 
 -- ---- the list
 
+-- with one more, and with one less, it is within its sizes still
+pub insert-sized : (ls : List Listed) (i : ℕ) (l : Listed) → DotsSized ls → EntrySized l → i ≤ length ls → length ls < 60 → DotsSized (insert-at ls i l)
+insert-sized ls i l S fits low few = record { few = omega (arith, count); each = all-of-splice EntrySized ls i 0 (l ∷ []) (S .each) (only EntrySized l fits) }
+  where
+    count : length (insert-at ls i l) ≡ length ls + 1
+    count = simp (length-append, length-take, length-drop) (omega arith)
+
+pub remove-sized : (ls : List Listed) (i : ℕ) → DotsSized ls → i < length ls → DotsSized (remove-at ls i)
+remove-sized ls i S low = record { few = omega (arith, count, S .few); each = all-of-splice EntrySized ls i 1 [] (S .each) (λ y m. absurd (List·Memᴰ·not-nil m)) }
+  where
+    count : length (remove-at ls i) + 1 ≡ length ls
+    count = simp (length-append, length-take, length-drop) (omega arith)
+
+pub list-position : (position : ℕ) (ls : List Listed) → position < 65536 → DotsSized ls → field (encode-dots position ls) 2 2 ≡ position
+unfolding encode-dots
+list-position position ls h S = position-of 2 1 position (le 2 (length ls) ++ (le 2 0 ++ concat-map encode-entry ls)) (dots-short position ls S) h
+
+-- a list that is laid out, its check too, is so but for its check
+pub list-laid : (position : ℕ) (ls : List Listed) → position < 65536 → DotsSized ls → (b : List ℕ) → b ≡ encode-dots position ls → Laid lay-dots dots-block b
+list-laid position ls h S b e =
+    edited lay-dots dots-block (record { position = position; dots = ls }) b (list-resealed b size) back
+    (body-resealed (sealed-body (body 2 1 position (le 2 (length ls) ++ (le 2 0 ++ concat-map encode-entry ls))) b size (body-length 2 1 position (le 2 (length ls) ++ (le 2 0 ++ concat-map encode-entry ls)) (dots-short position ls S)) (e ∙ (unfold encode-dots make-block in refl)))
+    ∙ (unfold encode-dots make-block in refl)) .1
+  where
+    size : length b ≡ 512
+    size = ap length e ∙ dots-length position ls S
+
+    back : dots-block (encode-dots position ls) ≡ record { position = position; dots = ls }
+    back = λ i. record { position = list-position position ls h S i; dots = dots-back position ls S i }
+
 module _ (b : List ℕ) (small : Bytes b) (size : length b ≡ 512) (laid : Laid lay-dots dots-block b) where
   abbrev ls : List Listed
   ls = decode-dots b
@@ -120,13 +150,10 @@ module _ (b : List ℕ) (small : Bytes b) (size : length b ≡ 512) (laid : Laid
       edited lay-dots dots-block (with-dots (dots-block b) ms) x (list-resealed x (B .size)) back
       (body-resealed B ∙ ap seal (sym (bytes-are position ms)) ∙ (unfold encode-dots make-block in refl))
     where
-      place : field (encode-dots (field b 2 2) ms) 2 2 ≡ field b 2 2
-      place = unfold encode-dots in position-of 2 1 position (le 2 (length ms) ++ (le 2 0 ++ concat-map encode-entry ms)) (dots-short position ms M) (field-bound b 2 2 small (omega arith))
-
       back : dots-block (encode-dots position ms) ≡ with-dots (dots-block b) ms
       back = λ i.
           record {
-            position = place i;
+            position = list-position position ms (field-bound b 2 2 small (omega arith)) M i;
             dots = dots-back position ms M i;
           }
 
@@ -149,7 +176,7 @@ module _ (b : List ℕ) (small : Bytes b) (size : length b ≡ 512) (laid : Laid
         more = sym (simp (length-append, length-take, length-drop) (omega (arith, n-length)))
 
         sized : DotsSized (insert-at (decode-dots b) i l)
-        sized = record { few = omega (arith, sym more, n-length); each = all-of-splice EntrySized ls i 0 (l ∷ []) (S .each) (only EntrySized l fits) }
+        sized = insert-sized ls i l S fits low few
 
         step-1 : Body b1 (splice (bytes (field b 2 2) (length (decode-dots b)) (decode-dots b)) (8 + 8 * i + 8) (8 * (n - i)) (cut (bytes (field b 2 2) (length (decode-dots b)) (decode-dots b)) (8 + 8 * i) (8 * (n - i))))
         step-1 = body-move (8 + 8 * i) (8 + 8 * i + 8) (8 * (n - i)) was (omega (arith, n-length)) (omega (arith, n-length)) p1
@@ -174,7 +201,7 @@ module _ (b : List ℕ) (small : Bytes b) (size : length b ≡ 512) (laid : Laid
         fewer = sym (simp (length-append, length-take, length-drop) (omega (arith, n-length)))
 
         sized : DotsSized (remove-at (decode-dots b) i)
-        sized = record { few = omega (arith, sym fewer, n-length, S .few); each = all-of-splice EntrySized ls i 1 [] (S .each) (λ y m. absurd (List·Memᴰ·not-nil m)) }
+        sized = remove-sized ls i S low
 
         eight : 8 * n + 8 - 8 * n ≡ 8
         eight = omega arith

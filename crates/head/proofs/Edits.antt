@@ -16,12 +16,12 @@ use Rattle.block.proofs.Parts.{splice-length, splice-past, splice-append, splic
 use Rattle.block.proofs.Arrays.{getD-in, EachOf, array-length, all-of-splice, only}
 use Rattle.block.proofs.Content.{body-length}
 use Rattle.block.proofs.Edits.{array-put, sub-splice, content-put}
-use Rattle.block.proofs.Resealed.{Body, cut-resealed, field-resealed, body-of, body-put, body-resealed, edited}
+use Rattle.block.proofs.Resealed.{Body, cut-resealed, field-resealed, body-of, body-put, body-resealed, sealed-body, edited}
 use Rattle.row.specs.declared.Row.{Row}
 use Rattle.meaning.specs.State.{Watermark}
 use Rattle.layout.specs.Clocks.{encode-row, encode-clock, decode-clock}
 use Rattle.layout.specs.Image.{encode-marks, decode-marks, Head, encode-head, decode-head}
-use Rattle.layout.proofs.ImageBack.{RowSized, row-length, ClockSized, clock-length, MarksSized, marks-length, HeadSized, table-length, head-content-length, head-short, head-back}
+use Rattle.layout.proofs.ImageBack.{RowSized, row-length, ClockSized, clock-length, MarksSized, marks-length, HeadSized, table-length, head-content-length, head-short, head-length, head-back}
 use Rattle.layout.proofs.Decoded.{head-decoded}
 use Rattle.head.specs.HeadEdits.{put-row, put-mark}
 
@@ -108,6 +108,56 @@ module _ (h : Head) (S : HeadSized h) where
           ∙ array-put 32 (concat-map (le 4)) (h .watermark) each-line (put-at (line i) j base) i [] (omega (arith, S .marks .eight))
           ∙ append-nil (concat-map (concat-map (le 4)) (put-at (h .watermark) i (put-at (line i) j base))))
 
+-- ---- a head with a row or a mark put anew is within its sizes still
+
+module _ (h : Head) (S : HeadSized h) where
+  pub put-row-sized : (n : Controller) → Crew n → (r : Row) → RowSized r → HeadSized (put-row h n r)
+  put-row-sized n crew r fits = record {
+    own = S .own;
+    table-eight = S .table-eight;
+    table-bytes = S .table-bytes;
+    clock = record {
+      eight = splice-length (h .clock) (n .0 - 1) 1 (r ∷ []) (omega (arith, crew .0, crew .1, S .clock .eight)) refl ∙ S .clock .eight;
+      rows = all-of-splice RowSized (h .clock) (n .0 - 1) 1 (r ∷ []) (S .clock .rows) (only RowSized r fits);
+    };
+    marks = S .marks;
+  }
+
+  pub put-mark-sized : (m n : Controller) → Crew m → Crew n → (base : ℕ) → base < 256 ^ 4 → HeadSized (put-mark h m n base)
+  put-mark-sized m n of crew base fits = record {
+    own = S .own;
+    table-eight = S .table-eight;
+    table-bytes = S .table-bytes;
+    clock = S .clock;
+    marks = record {
+      eight = splice-length (h .watermark) (m .0 - 1) 1 (put-at row (n .0 - 1) base ∷ []) (omega (arith, of .0, of .1, S .marks .eight)) refl ∙ S .marks .eight;
+      rows = all-of-splice (λ (r : List ℕ). length r ≡ 8) (h .watermark) (m .0 - 1) 1 (put-at row (n .0 - 1) base ∷ []) (S .marks .rows) (only (λ (r : List ℕ). length r ≡ 8) (put-at row (n .0 - 1) base) eight);
+      small = λ r y k. all-of-splice (λ (l : List ℕ). (v : ℕ) → v ∈ l → v < 256 ^ 4) (h .watermark) (m .0 - 1) 1 (put-at row (n .0 - 1) base ∷ []) (λ l q v p. S .marks .small l v q p)
+          (only (λ (l : List ℕ). (v : ℕ) → v ∈ l → v < 256 ^ 4) (put-at row (n .0 - 1) base) all-small) r k y;
+    };
+  }
+    where
+      row : List ℕ
+      row = getD (h .watermark) (m .0 - 1) []
+
+      inside : row ∈ h .watermark
+      inside = line-in h S (m .0 - 1) (omega (arith, of .0, of .1))
+
+      eight : length (put-at row (n .0 - 1) base) ≡ 8
+      eight = splice-length row (n .0 - 1) 1 (base ∷ []) (omega (arith, crew .0, crew .1, S .marks .rows row inside)) refl ∙ S .marks .rows row inside
+
+      all-small : (v : ℕ) → v ∈ put-at row (n .0 - 1) base → v < 256 ^ 4
+      all-small = all-of-splice (λ (v : ℕ). v < 256 ^ 4) row (n .0 - 1) 1 (base ∷ []) (λ v p. S .marks .small row v inside p) (only (λ (v : ℕ). v < 256 ^ 4) base fits)
+
+-- a head that is laid out, its check too, is so but for its check
+pub head-laid : (h : Head) → HeadSized h → (b : List ℕ) → b ≡ encode-head h → Laid encode-head decode-head b
+head-laid h S b e =
+    edited encode-head decode-head h b (head-resealed b size) (head-back h S)
+    (body-resealed (sealed-body (with-tail h (tail h)) b size (body-length 1 1 0 (le 1 (h .own .0) ++ (le 3 0 ++ (table-part h ++ tail h))) (head-short h S)) (e ∙ (unfold encode-head make-block in refl))) ∙ (unfold encode-head make-block in refl)) .1
+  where
+    size : length b ≡ 512
+    size = ap length e ∙ head-length h S
+
 module _ (b x : List ℕ) (small : Bytes b) (size : length b ≡ 512) (laid : Laid encode-head decode-head b) where
   abbrev h : Head
   h = decode-head b
@@ -126,17 +176,7 @@ module _ (b x : List ℕ) (small : Bytes b) (size : length b ≡ 512) (laid : La
     pub row-is-put : (r : Row) (y : List ℕ) → RowSized r → y ≡ splice b (16 + 12 * (n .0 - 1)) 4 (le 4 (r .base)) → x ≡ splice y (16 + 12 * (n .0 - 1) + 4) 8 (le 8 (r .bits))
         → (decode-head x ≡ put-row (decode-head b) n r) × Laid encode-head decode-head x
     row-is-put r y fits d e =
-        becomes (put-row h n r)
-        (record {
-          own = S .own;
-          table-eight = S .table-eight;
-          table-bytes = S .table-bytes;
-          clock = record {
-            eight = splice-length (h .clock) (n .0 - 1) 1 (r ∷ []) (omega (arith, crew .0, crew .1, S .clock .eight)) refl ∙ S .clock .eight;
-            rows = all-of-splice RowSized (h .clock) (n .0 - 1) 1 (r ∷ []) (S .clock .rows) (only RowSized r fits);
-          };
-          marks = S .marks;
-        })
+        becomes (put-row h n r) (put-row-sized h S n crew r fits)
         (subst (Body x) (row-put h S (n .0 - 1) r (omega (arith, crew .0, crew .1))) (body-put (16 + 12 * (n .0 - 1)) 12 (encode-row r) was (omega (arith, crew .0, crew .1)) (row-length r) (e ∙ both)))
       where
         both : splice y (16 + 12 * (n .0 - 1) + 4) 8 (le 8 (r .bits)) ≡ splice b (16 + 12 * (n .0 - 1)) 12 (encode-row r)
@@ -147,30 +187,6 @@ module _ (b x : List ℕ) (small : Bytes b) (size : length b ≡ 512) (laid : La
     pub mark-is-put : (m : Controller) (base : ℕ) → Crew m → base < 256 ^ 4 → x ≡ splice b (112 + 32 * (m .0 - 1) + 4 * (n .0 - 1)) 4 (le 4 base)
         → (decode-head x ≡ put-mark (decode-head b) m n base) × Laid encode-head decode-head x
     mark-is-put m base of fits e =
-        becomes (put-mark h m n base)
-        (record {
-          own = S .own;
-          table-eight = S .table-eight;
-          table-bytes = S .table-bytes;
-          clock = S .clock;
-          marks = record {
-            eight = splice-length (h .watermark) (m .0 - 1) 1 (put-at row (n .0 - 1) base ∷ []) (omega (arith, of .0, of .1, S .marks .eight)) refl ∙ S .marks .eight;
-            rows = all-of-splice (λ (r : List ℕ). length r ≡ 8) (h .watermark) (m .0 - 1) 1 (put-at row (n .0 - 1) base ∷ []) (S .marks .rows) (only (λ (r : List ℕ). length r ≡ 8) (put-at row (n .0 - 1) base) eight);
-            small = λ r y k. all-of-splice (λ (l : List ℕ). (v : ℕ) → v ∈ l → v < 256 ^ 4) (h .watermark) (m .0 - 1) 1 (put-at row (n .0 - 1) base ∷ []) (λ l q v p. S .marks .small l v q p)
-                (only (λ (l : List ℕ). (v : ℕ) → v ∈ l → v < 256 ^ 4) (put-at row (n .0 - 1) base) all-small) r k y;
-          };
-        })
+        becomes (put-mark h m n base) (put-mark-sized h S m n of crew base fits)
         (subst (Body x) (mark-put h S (m .0 - 1) (n .0 - 1) base (omega (arith, of .0, of .1)) (omega (arith, crew .0, crew .1)))
         (body-put (112 + 32 * (m .0 - 1) + 4 * (n .0 - 1)) 4 (le 4 base) was (omega (arith, crew .0, crew .1, of .0, of .1)) (le-length 4 base) e))
-      where
-        row : List ℕ
-        row = getD (decode-head b .watermark) (m .0 - 1) []
-
-        inside : row ∈ decode-head b .watermark
-        inside = line-in h S (m .0 - 1) (omega (arith, of .0, of .1))
-
-        eight : length (put-at row (n .0 - 1) base) ≡ 8
-        eight = splice-length row (n .0 - 1) 1 (base ∷ []) (omega (arith, crew .0, crew .1, S .marks .rows row inside)) refl ∙ S .marks .rows row inside
-
-        all-small : (v : ℕ) → v ∈ put-at row (n .0 - 1) base → v < 256 ^ 4
-        all-small = all-of-splice (λ (v : ℕ). v < 256 ^ 4) row (n .0 - 1) 1 (base ∷ []) (λ v p. S .marks .small row v inside p) (only (λ (v : ℕ). v < 256 ^ 4) base fits)

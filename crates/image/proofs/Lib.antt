@@ -9,3 +9,4 @@ pub mod Blocks
 pub mod Moved
 pub mod Opening
 pub mod Closing
+pub mod Lifting

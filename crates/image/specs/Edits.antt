@@ -2,6 +2,9 @@
 use Prim.Native.Nat.{ℕ}
 use mathlib.Core.Path.{_≡_}
 use mathlib.Core.List.{List}
+use mathlib.Core.Bool.{true, false}
+use lib.Dec.{eqb}
+use Rattle.numbers.specs.Words.{if_then_else_}
 use Rattle.meaning.specs.State.{Stored, Listed, State}
 use Rattle.layout.specs.Image.{Head, encode, decode}
 
@@ -24,3 +27,10 @@ with-foreign-dots s ls =
 abbrev pub with-points : State → List Stored → State
 with-points s ps =
     record { own = s .own; table = s .table; clock = s .clock; watermark = s .watermark; own-dots = s .own-dots; foreign-dots = s .foreign-dots; points = ps }
+
+-- the own dots stand in block 1, the foreign ones in block 2
+abbrev pub list-of : State → ℕ → List Listed
+list-of s k = if eqb k 1 then s .own-dots else s .foreign-dots
+
+abbrev pub with-list : State → ℕ → List Listed → State
+with-list s k ls = if eqb k 1 then with-own-dots s ls else with-foreign-dots s ls

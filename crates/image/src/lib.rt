@@ -3,6 +3,7 @@ use dots::Found;
 use numbers::Controller;
 use numbers::Dot;
 use numbers::Key;
+use row::Row;
 ghost use mathlib.Core.Path.{_≡_};
 ghost use mathlib.Core.Bool.{true};
 ghost use Prim.Native.Nat.{_+_, _≤_, _<_};
@@ -14,10 +15,11 @@ ghost use Rattle.meaning.specs.Object.{has-dot, no-object};
 ghost use Rattle.meaning.specs.State.{stored-before, listed-before};
 ghost use Rattle.layout.specs.PointBlock.{form-1, decode-stored};
 ghost use Rattle.layout.specs.Clocks.{decode-clock};
-ghost use Rattle.layout.specs.Image.{image-length, decode, decode-dots, goodImage};
+ghost use Rattle.layout.specs.Image.{image-length, head-of, decode, decode-dots, goodImage};
+ghost use Rattle.head.specs.HeadEdits.{put-row, put-mark};
 ghost use Rattle.record.specs.RecordGood.{record-good};
 ghost use Rattle.image.specs.Parts.{stored-count, stored-laid-out, Few, Ascending, parts-laid-out, parts-good};
-ghost use Rattle.image.specs.Edits.{Canonical, with-points};
+ghost use Rattle.image.specs.Edits.{Canonical, with-head, with-points, list-of, with-list};
 ghost use Rattle.image.specs.Apart.{apart, apart-from-earlier, point-at, dot-listed-for, listed-for, all-apart};
 
 // The number of stored points: "then points .., then blocks of zeros", so up to the first block of kind 0.
@@ -316,4 +318,42 @@ pub fn close_place(image: &mut [u8], count: usize, i: usize)
         j += 1;
     }
     block::clear(image, 512 * (2 + count), 512 * (3 + count));
+}
+
+// Controller n's row.
+pub fn set_row(image: &mut [u8], n: Controller, r: Row)
+    requires { ⌜ (length (now image) ≡ image-length) × Canonical (now image) × Crew n ⌝ }
+    ensures { λ _. ⌜ (decode (now (image .exit)) ≡ with-head (decode (now (image .entry))) (put-row (head-of (decode (now (image .entry)))) n r)) × Canonical (now (image .exit)) ⌝ }
+{
+    head::set_row(&mut image[0..512], n, r);
+    block::seal_block(&mut image[0..512]);
+}
+
+// The base of n's row that m is known to have.
+pub fn set_mark(image: &mut [u8], m: Controller, n: Controller, base: u32)
+    requires { ⌜ (length (now image) ≡ image-length) × Canonical (now image) × Crew m × Crew n ⌝ }
+    ensures { λ _. ⌜ (decode (now (image .exit)) ≡ with-head (decode (now (image .entry))) (put-mark (head-of (decode (now (image .entry)))) m n base)) × Canonical (now (image .exit)) ⌝ }
+{
+    head::set_mark(&mut image[0..512], m, n, base);
+    block::seal_block(&mut image[0..512]);
+}
+
+// One more dot before the i-th of a list: of the own dots, in block 1, or of the foreign ones, in block 2.
+pub fn insert_dot(image: &mut [u8], list: usize, i: usize, d: Dot, k: Key)
+    requires { ⌜ (length (now image) ≡ image-length) × Canonical (now image) × (1 ≤ list) × (list ≤ 2) × (i ≤ length (list-of (decode (now image)) list)) × (length (list-of (decode (now image)) list) < 60) ⌝ }
+    ensures { λ _. ⌜ (decode (now (image .exit)) ≡ with-list (decode (now (image .entry))) list (insert-at (list-of (decode (now (image .entry))) list) i (record { dot = d; key = k }))) × Canonical (now (image .exit)) ⌝ }
+{
+    let at = 512 * list;
+    dots::insert_dot(&mut image[at..at + 512], i, d, k);
+    block::seal_block(&mut image[at..at + 512]);
+}
+
+// The i-th dot of a list goes.
+pub fn remove_dot(image: &mut [u8], list: usize, i: usize)
+    requires { ⌜ (length (now image) ≡ image-length) × Canonical (now image) × (1 ≤ list) × (list ≤ 2) × (i < length (list-of (decode (now image)) list)) ⌝ }
+    ensures { λ _. ⌜ (decode (now (image .exit)) ≡ with-list (decode (now (image .entry))) list (remove-at (list-of (decode (now (image .entry))) list) i)) × Canonical (now (image .exit)) ⌝ }
+{
+    let at = 512 * list;
+    dots::remove_dot(&mut image[at..at + 512], i);
+    block::seal_block(&mut image[at..at + 512]);
 }
