@@ -9,3 +9,6 @@ pub mod Summing
 pub mod Copies
 pub mod Scans
 pub mod Passing
+pub mod ByIndex
+pub mod Search
+pub mod Placed

@@ -1,6 +1,6 @@
 pub mod Written
-pub mod ByIndex
 pub mod Laid
 pub mod Entry
 pub mod Good
 pub mod Search
+pub mod Placing

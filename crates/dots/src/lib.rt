@@ -19,10 +19,10 @@ ghost use Rattle.layout.specs.Image.{decode-entry, encode-dots, decode-dots};
 ghost use Rattle.dots.specs.DotsGood.{dots-good};
 ghost use Rattle.dots.specs.Entries.{right-list, entry-good, Found-in};
 
-// Where a dot is listed, counted from 0.
+// Where a dot is listed, counted from 0, or, where it is not, the place before which it would stand.
 pub enum Found {
     At(usize),
-    Nothing,
+    Before(usize),
 }
 
 // "4-5 count"
@@ -195,5 +195,5 @@ pub fn find_dot(b: &[u8], d: Dot) -> Found
             high = mid;
         }
     }
-    Found::Nothing
+    Found::Before(low)
 }

@@ -5,3 +5,5 @@ pub mod InOrder
 pub mod Loops
 pub mod Whole
 pub mod ListedFor
+pub mod Finding
+pub mod Placing
