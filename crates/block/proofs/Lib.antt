@@ -13,3 +13,6 @@ pub mod Resealed
 pub mod Places
 pub mod Scans
 pub mod Passing
+pub mod ByIndex
+pub mod Search
+pub mod Placed

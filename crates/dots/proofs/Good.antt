@@ -15,13 +15,13 @@ use Rattle.numbers.proofs.Lists.{clause, passed, _and-also_, all-passed}
 use Rattle.numbers.proofs.Orders.{lt-pair}
 use Rattle.numbers.proofs.Dots.{dot-order}
 use Rattle.block.specs.Fields.{upto}
+use Rattle.block.proofs.ByIndex.{less-or-same, all-below, below-all, ascends-upto, upto-ascends}
 use Rattle.meaning.specs.CrewTable.{CrewTable, holds}
 use Rattle.meaning.specs.Clock.{Clock, in-clock}
 use Rattle.meaning.specs.State.{Listed, listed-before}
 use Rattle.meaning.specs.Good.{listed-formed}
 use Rattle.dots.specs.DotsGood.{in-its-list, dots-good}
 use Rattle.dots.specs.Entries.{entry-good}
-use Rattle.dots.proofs.ByIndex.{less-or-same, all-upto, upto-all, ascends-upto, upto-ascends}
 
 -- ---- a list is good where each entry is, and each pair is in its order
 
@@ -48,11 +48,11 @@ module _ (mine : Bool) (own : Controller) (t : CrewTable) (k : Clock) (n : ℕ) 
   all-good g p =
       sym
       (all-passed {bs = clauses}
-      (all-upto (listed-formed t) n e (λ i l. test-at (e i) (g i l) 0)
+      (all-below (listed-formed t) n e (λ i l. test-at (e i) (g i l) 0)
       and-also ascends-upto listed-before n e p
-      and-also all-upto (in-its-list mine own) n e (λ i l. test-at (e i) (g i l) 1)
-      and-also all-upto (λ l. holds t own (l .key .job)) n e (λ i l. test-at (e i) (g i l) 2)
-      and-also all-upto (λ l. in-clock k (l .dot)) n e (λ i l. test-at (e i) (g i l) 3)
+      and-also all-below (in-its-list mine own) n e (λ i l. test-at (e i) (g i l) 1)
+      and-also all-below (λ l. holds t own (l .key .job)) n e (λ i l. test-at (e i) (g i l) 2)
+      and-also all-below (λ l. in-clock k (l .dot)) n e (λ i l. test-at (e i) (g i l) 3)
       and-also passed))
 
   clause-at : dots-good mine own t k (upto n e) ≡ true → (i : ℕ) → getD clauses i true ≡ true
@@ -63,10 +63,10 @@ module _ (mine : Bool) (own : Controller) (t : CrewTable) (k : Clock) (n : ℕ) 
   unfolding entry-good
   each-of g i l =
       all-passed {bs = tests (e i)}
-      (upto-all (listed-formed t) n e (clause-at g 0) i l
-      and-also upto-all (in-its-list mine own) n e (clause-at g 2) i l
-      and-also upto-all (λ x. holds t own (x .key .job)) n e (clause-at g 3) i l
-      and-also upto-all (λ x. in-clock k (x .dot)) n e (clause-at g 4) i l
+      (below-all (listed-formed t) n e (clause-at g 0) i l
+      and-also below-all (in-its-list mine own) n e (clause-at g 2) i l
+      and-also below-all (λ x. holds t own (x .key .job)) n e (clause-at g 3) i l
+      and-also below-all (λ x. in-clock k (x .dot)) n e (clause-at g 4) i l
       and-also passed)
 
   pub one-bad : (i : ℕ) → i < n → entry-good mine own t k (e i) ≡ false → false ≡ dots-good mine own t k (upto n e)

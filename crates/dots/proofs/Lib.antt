@@ -1,7 +1,7 @@
 pub mod Written
-pub mod ByIndex
 pub mod Laid
 pub mod Entry
 pub mod Good
 pub mod Search
 pub mod Edits
+pub mod Placing

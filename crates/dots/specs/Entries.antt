@@ -1,14 +1,14 @@
 -- The entries of a dots block one by one, what is asked of each, and what a search finds. Assumes nothing.
-use Prim.Native.Nat.{ℕ, _+_, _*_, _<_}
+use Prim.Native.Nat.{ℕ, _+_, _*_, _≤_, _<_}
 use mathlib.Core.Path.{_≡_}
-use mathlib.Core.Bool.{Bool, false, not}
+use mathlib.Core.Bool.{Bool, true, not}
 use mathlib.Core.List.{List, [], _∷_}
-use lib.ListN.{length, getD}
+use lib.ListN.{length, take, drop, getD}
 use Rattle.numbers.specs.declared.Controller.{Controller}
 use Rattle.numbers.specs.declared.Dot.{Dot}
-use Rattle.numbers.specs.Words.{if_then_else_, every, some?}
+use Rattle.numbers.specs.Words.{if_then_else_, every, all?}
 use Rattle.numbers.specs.Numbers.{same-controller}
-use Rattle.numbers.specs.Dot.{dot, same-dot}
+use Rattle.numbers.specs.Dot.{dot, dot-before}
 use Rattle.numbers.specs.Key.{key}
 use Rattle.block.specs.Fields.{cut}
 use Rattle.meaning.specs.CrewTable.{CrewTable, holds}
@@ -17,7 +17,7 @@ use Rattle.meaning.specs.State.{Listed}
 use Rattle.meaning.specs.Good.{listed-formed}
 use Rattle.layout.specs.Image.{decode-entry}
 use Rattle.dots.specs.declared.Found.{Found}
-use Rattle.dots.specs.declared.Found.the-variants.{At, Nothing}
+use Rattle.dots.specs.declared.Found.the-variants.{At, Before}
 use Rattle.dots.specs.DotsGood.{in-its-list}
 
 -- entry i of a block
@@ -36,7 +36,10 @@ entry-good mine own t k l =
 abbrev pub no-entry : Listed
 no-entry = record { dot = dot 0 0; key = key 0 0 }
 
--- the entry that was found is one of the dot; where none was, there is none
+-- the entry that was found is one of the dot; where none was, those before the place come before the dot, and the others after it
 abbrev pub Found-in : List Listed → Dot → Found → Type 0
 Found-in ls d (At i) = (i < length ls) × (getD ls i no-entry .dot ≡ d)
-Found-in ls d Nothing = some? (λ l. same-dot (l .dot) d) ls ≡ false
+Found-in ls d (Before i) =
+    (i ≤ length ls)
+    × (all? (λ l. dot-before (l .dot) d) (take i ls) ≡ true)
+    × (all? (λ l. dot-before d (l .dot)) (drop i ls) ≡ true)

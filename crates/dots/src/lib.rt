@@ -21,10 +21,10 @@ ghost use Rattle.dots.specs.DotsBlock.{lay-dots, dots-block, with-dots};
 ghost use Rattle.dots.specs.DotsGood.{dots-good};
 ghost use Rattle.dots.specs.Entries.{right-list, entry-good, Found-in};
 
-// Where a dot is listed, counted from 0.
+// Where a dot is listed, counted from 0, or, where it is not, the place before which it would stand.
 pub enum Found {
     At(usize),
-    Nothing,
+    Before(usize),
 }
 
 // "4-5 count"
@@ -197,7 +197,7 @@ pub fn find_dot(b: &[u8], d: Dot) -> Found
             high = mid;
         }
     }
-    Found::Nothing
+    Found::Before(low)
 }
 
 // ---- edits: the list holds other dots and is laid out still, but for its check, which is made after the last of them

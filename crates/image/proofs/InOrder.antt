@@ -1,70 +1,31 @@
--- The stored points of an image, one by one: that they ascend by neighbours, and that no dot is another point's. Assumes nothing.
-use Prim.Native.Nat.{ℕ, zero, suc, _+_, _*_, _-_, _≤_, _<_}
-use mathlib.Core.Path.{_≡_, refl, ap, ap₂, sym, _∙_, subst}
-use mathlib.Core.Logic.{_⊎_, inl, inr, ⊎-elim}
-use mathlib.Core.Bool.{Bool, true, false, _&&_, _||_, not}
-use mathlib.Core.List.{List, [], _∷_, _++_}
+-- The stored points of an image, one by one: no dot is another point's. Assumes nothing.
+use Prim.Native.Nat.{ℕ, _<_}
+use mathlib.Core.Path.{_≡_, ap, sym, _∙_, subst}
+use mathlib.Core.Logic.{⊎-elim}
+use mathlib.Core.Bool.{Bool, true, false, _||_, not}
+use mathlib.Core.List.{List}
 use native.Mathlib.Omega.{arith}
-use native.Mathlib.Nat.{le-of-suc-le-suc}
 use lib.Dec.{ltb}
 use borrow.Author.Tests.{ltb-true, ltb-false, not-true}
 use Rattle.numbers.specs.declared.Dot.{Dot}
 use Rattle.numbers.specs.declared.Key.{Key}
-use Rattle.numbers.specs.Words.{every, all?, ascends?}
+use Rattle.numbers.specs.Words.{every, all?}
 use Rattle.numbers.specs.Dot.{same-dot}
 use Rattle.numbers.specs.Key.{same-key}
-use Rattle.numbers.proofs.Tests.{by-test, never, same-test, and-left, and-right, and-both, or-cases, or-inl, or-inr, _∈_}
-use Rattle.numbers.proofs.Lists.{all-in, in-all, in-left, in-right}
-use Rattle.numbers.proofs.Orders.{Order, Ascends, ascends-first, ascends-rest, ascends-cons}
+use Rattle.numbers.proofs.Tests.{by-test, never, same-test, or-cases, or-inl, or-inr, _∈_}
+use Rattle.numbers.proofs.Lists.{all-in, in-all}
+use Rattle.numbers.proofs.Orders.{Ascends}
 use Rattle.numbers.proofs.Dots.{same-dots, dot-itself, same-keys, key-itself, key-order}
 use Rattle.block.specs.Fields.{upto}
 use Rattle.block.proofs.Arrays.{in-upto, upto-in}
+use Rattle.block.proofs.ByIndex.{upto-ascends}
 use Rattle.block.proofs.Passing.{every-true, every-at}
 use Rattle.meaning.specs.Object.{Version, has-dot}
-use Rattle.meaning.specs.State.{Stored, stored-before, Listed, State, listed, dots-of}
+use Rattle.meaning.specs.State.{Stored, stored-before, Listed, dots-of}
 use Rattle.meaning.specs.Message.{dots-agree}
-use Rattle.meaning.specs.Good.{dots-apart}
 use Rattle.laws.proofs.MergeLaws.{has-dot-of, of-has-dot}
-use Rattle.laws.proofs.Putting.{stored-order}
-use Rattle.laws.proofs.Facts.{DotOf, in-dots, dots-in, agree-at, at-agree}
+use Rattle.laws.proofs.Facts.{in-dots, dots-in, agree-at, at-agree}
 use Rattle.image.specs.Apart.{apart, listed-for}
-
--- ---- ascending, by places
-
-module _ {A : Type 0} (b : A → A → Bool) where
-  -- each of the first n comes before those after it
-  abbrev pub Up : (ℕ → A) → ℕ → Type 0
-  Up f n = (i j : ℕ) → i < j → j < n → b (f i) (f j) ≡ true
-
-  pub up-ascends : (n : ℕ) (f : ℕ → A) → Up f n → Ascends b (upto n f)
-  up-ascends zero f h = refl
-  up-ascends (suc n) f h =
-      ascends-cons b (f 0) (upto n (λ i. f (suc i)))
-      (λ y m. let q = in-upto n (λ i. f (suc i)) m in ap (b (f 0)) (q .2) ∙ h 0 (suc (q .0)) (omega arith) (omega (arith, q .1)))
-      (up-ascends n (λ i. f (suc i)) (λ i j l k. h (suc i) (suc j) (omega arith) (omega arith)))
-
-  pub ascends-up : (n : ℕ) (f : ℕ → A) → Ascends b (upto n f) → Up f n
-  ascends-up zero f t i j l k = absurd (omega arith)
-  ascends-up (suc n) f t i zero l k = absurd (omega arith)
-  ascends-up (suc n) f t zero (suc j) l k = ascends-first b (f 0) (upto n (λ i. f (suc i))) t (upto-in n (λ i. f (suc i)) j (le-of-suc-le-suc k))
-  ascends-up (suc n) f t (suc i) (suc j) l k = ascends-up n (λ x. f (suc x)) (ascends-rest b (f 0) (upto n (λ x. f (suc x))) t) i j (omega arith) (le-of-suc-le-suc k)
-
-  -- one more, which comes after the last
-  pub up-one : (f : ℕ → A) → Up f 1
-  up-one f i j l k = absurd (omega arith)
-
-  pub up-more : Order b → (f : ℕ → A) (n : ℕ) → Up f (n + 1) → b (f n) (f (n + 1)) ≡ true → Up f (n + 1 + 1)
-  up-more O f n h t i j l k =
-      by-test (ltb j (n + 1)) (λ u. h i j l (ltb-true j (n + 1) u))
-      (λ u.
-      let last : n + 1 ≡ j = omega (arith, k, ltb-false j (n + 1) u) in
-      subst (λ (x : ℕ). b (f i) (f x) ≡ true) last
-      (by-test (ltb i n) (λ v. O .through (f i) (f n) (f (n + 1)) (h i n (ltb-true i n v) (omega arith)) t)
-      (λ v. subst (λ (x : ℕ). b (f x) (f (n + 1)) ≡ true) (omega (arith, l, last, ltb-false i n v)) t)))
-
-  -- a neighbour that does not come after stops it
-  pub up-fails : (f : ℕ → A) (n i : ℕ) → i + 1 < n → b (f i) (f (i + 1)) ≡ false → ascends? b (upto n f) ≡ false
-  up-fails f n i l e = by-test (ascends? b (upto n f)) (λ t. never (ascends-up n f t i (i + 1) (omega arith) l) e) (λ t. t)
 
 -- ---- dots
 
@@ -87,7 +48,7 @@ module _ (n : ℕ) (f : ℕ → Stored) (up : Ascends stored-before (upto n f)) 
 
   other-keys : (i j : ℕ) → i < j → j < n → f i .key ≡ f j .key → ⊥
   other-keys i j l k e =
-      never (ascends-up stored-before n f up i j l k)
+      never (upto-ascends stored-before n f up i j l k)
       (subst (λ (x : Key). Rattle.numbers.specs.Key.key-before (f i .key) x ≡ false) e (key-order .itself (f i .key)))
 
   agree→pairs : dots-agree (dots-of (upto n f)) (dots-of (upto n f)) ≡ true → pairs ≡ true

@@ -10,3 +10,5 @@ pub mod Moved
 pub mod Opening
 pub mod Closing
 pub mod Lifting
+pub mod Finding
+pub mod Placing

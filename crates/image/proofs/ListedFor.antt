@@ -10,20 +10,21 @@ use lib.Dec.{ltb}
 use borrow.Author.Tests.{ltb-true, ltb-false, not-true}
 use Rattle.numbers.specs.declared.Dot.{Dot}
 use Rattle.numbers.specs.declared.Key.{Key}
-use Rattle.numbers.specs.Words.{every, all?, some?, ascends?}
+use Rattle.numbers.specs.Words.{every, all?, ascends?}
 use Rattle.numbers.specs.Dot.{same-dot, dot-before}
 use Rattle.numbers.specs.Key.{same-key}
-use Rattle.numbers.proofs.Tests.{by-test, never, same-test, or-cases, or-inl, or-inr, _∈_}
-use Rattle.numbers.proofs.Lists.{all-in, in-all, in-some}
+use Rattle.numbers.proofs.Tests.{by-test, never, same-test, or-cases, or-inl, or-inr}
+use Rattle.numbers.proofs.Lists.{all-in, in-all}
 use Rattle.numbers.proofs.Dots.{same-dots, dot-itself, dot-order}
 use Rattle.block.specs.Fields.{field, upto}
 use Rattle.block.proofs.Arrays.{in-upto, upto-in, upto-at}
 use Rattle.block.proofs.Passing.{all-upto}
+use Rattle.block.proofs.Placed.{all-then, all-others}
 use Rattle.meaning.specs.State.{Listed, listed-before}
 use Rattle.layout.specs.PointBlock.{form-1, decode-stored, decode-point}
 use Rattle.layout.specs.Image.{decode-dots}
 use Rattle.dots.specs.declared.Found.{Found}
-use Rattle.dots.specs.declared.Found.the-variants.{At, Nothing}
+use Rattle.dots.specs.declared.Found.the-variants.{At, Before}
 use Rattle.dots.specs.Entries.{entry, no-entry, Found-in}
 use Rattle.dots.proofs.Laid.{entries-are, entries-length}
 use Rattle.dots.proofs.Search.{all-pairs}
@@ -35,15 +36,18 @@ abbrev for-point : Dot → Key → Listed → Bool
 for-point d k l = not (same-dot (l .dot) d) || same-key (l .key) k
 
 module _ (b : List ℕ) (few : field b 4 2 ≤ 60) (d : Dot) (k : Key) where
-  -- no entry of the dot
-  nowhere : some? (λ l. same-dot (l .dot) d) (decode-dots b) ≡ false → true ≡ dot-listed-for (decode-dots b) d k
-  nowhere e =
-      sym (in-all (for-point d k) (decode-dots b)
-      (λ l m. or-inl (not (same-dot (l .dot) d)) (same-key (l .key) k)
-      (ap not (by-test (same-dot (l .dot) d) (λ t. never (in-some (λ x. same-dot (x .dot) d) (decode-dots b) m t) e) (λ t. t)))))
+  -- no entry of the dot: those before the place come before it, the others after it
+  nowhere : (i : ℕ) → Found-in (decode-dots b) d (Before i) → true ≡ dot-listed-for (decode-dots b) d k
+  nowhere i h =
+      sym (all-then (λ l. not (same-dot d (l .dot))) (for-point d k)
+      (λ l t. or-inl (not (same-dot (l .dot) d)) (same-key (l .key) k) (ap not (turned l (not-true (same-dot d (l .dot)) t)))) (decode-dots b)
+      (all-others (λ l. l .dot) dot-before dot-order same-dot same-dots dot-itself d (decode-dots b) i (h .1) (h .2)))
+    where
+      turned : (l : Listed) → same-dot d (l .dot) ≡ false → same-dot (l .dot) d ≡ false
+      turned l t = by-test (same-dot (l .dot) d) (λ u. never (subst (λ (x : Dot). same-dot d x ≡ true) (sym (same-dots (l .dot) d u)) (dot-itself d)) t) (λ u. u)
 
-  pub found-none : (f : Found) → f ≡ Nothing → Found-in (decode-dots b) d f → true ≡ dot-listed-for (decode-dots b) d k
-  found-none f q h = nowhere (subst (Found-in (decode-dots b) d) q h)
+  pub found-none : (f : Found) (i : ℕ) → f ≡ Before i → Found-in (decode-dots b) d f → true ≡ dot-listed-for (decode-dots b) d k
+  found-none f i q h = nowhere i (subst (Found-in (decode-dots b) d) q h)
 
   pub found-within : (f : Found) (i : ℕ) → f ≡ At i → Found-in (decode-dots b) d f → i < 60
   found-within f i q h = let g = subst (Found-in (decode-dots b) d) q h in omega (arith, g .0, entries-length b few)

@@ -2,10 +2,9 @@
 use Prim.Native.Nat.{ℕ, zero, suc, _+_, _*_, _-_, _≤_, _<_}
 use mathlib.Core.Path.{_≡_, refl, ap, sym, _∙_, subst}
 use mathlib.Core.Bool.{Bool, true, false, _&&_, _||_, not}
-use mathlib.Core.List.{List, [], _∷_}
+use mathlib.Core.List.{List}
 use native.Mathlib.Omega.{arith}
-use native.Mathlib.Nat.{add-sub-cancel-left}
-use lib.ListN.{length, take, drop}
+use lib.ListN.{take, drop}
 use Rattle.numbers.specs.declared.Controller.{Controller}
 use Rattle.numbers.specs.declared.Dot.{Dot}
 use Rattle.numbers.specs.declared.Key.{Key}
@@ -16,16 +15,16 @@ use Rattle.block.specs.Fields.{cut, field, upto}
 use Rattle.block.specs.Block.{block-at}
 use Rattle.block.proofs.Parts.{part-is}
 use Rattle.block.proofs.Arrays.{take-upto}
-use Rattle.block.proofs.Passing.{Passing, one-fails, all-passed, all-upto}
+use Rattle.block.proofs.ByIndex.{Pairs, ascends-upto, pairs-more, pairs-fail}
+use Rattle.block.proofs.Passing.{all-upto}
 use Rattle.meaning.specs.Object.{Version, has-dot}
-use Rattle.meaning.specs.State.{Stored, stored-before}
+use Rattle.meaning.specs.State.{stored-before}
 use Rattle.laws.proofs.Putting.{stored-order}
 use Rattle.layout.specs.Clocks.{decode-clock}
 use Rattle.layout.specs.PointBlock.{form-1, decode-slot, decode-point, encode-stored, decode-stored}
 use Rattle.record.specs.RecordGood.{record-good}
 use Rattle.image.specs.Parts.{stored-laid-out, Few}
 use Rattle.image.specs.Apart.{apart, point-at, apart-from-earlier}
-use Rattle.image.proofs.InOrder.{Up, up-ascends, up-one, up-more, up-fails}
 
 -- a block of the image, as it is lent
 pub block-part : (img : List ℕ) (k : ℕ) → take (512 * k + 512 - 512 * k) (drop (512 * k) img) ≡ block-at img k
@@ -92,7 +91,7 @@ foreign-is a b v i r t e f g = ap not (sym (ap (has-dot (decode-stored form-1 b 
 
 -- the points before the i-th ascend
 abbrev pub UpTo : List ℕ → ℕ → Type 0
-UpTo img i = Up stored-before (point-at img) i
+UpTo img i = Pairs stored-before i (point-at img)
 
 pub keys-are : (img : List ℕ) (k : ℕ) (x : Key) → x ≡ decode-point form-1 (block-at img k) .key → x ≡ decode-stored form-1 (block-at img k) .key
 unfolding decode-stored
@@ -123,15 +122,15 @@ pub goes-up : (img : List ℕ) (i : ℕ) → 1 ≤ i → UpTo img i → stored-b
 goes-up img i l h t =
     let n : i ≡ i - 1 + 1 = omega arith in
     subst (λ (k : ℕ). UpTo img (k + 1)) (sym n)
-    (up-more stored-before stored-order (point-at img) (i - 1) (subst (λ (k : ℕ). UpTo img k) n h) (subst (λ (k : ℕ). stored-before (point-at img (i - 1)) (point-at img k) ≡ true) n t))
+    (pairs-more stored-before stored-order (point-at img) (i - 1) (subst (λ (k : ℕ). UpTo img k) n h) (subst (λ (k : ℕ). stored-before (point-at img (i - 1)) (point-at img k) ≡ true) n t))
 
 pub goes-down : (img : List ℕ) (count i : ℕ) → 1 ≤ i → i < count → stored-before (point-at img (i - 1)) (point-at img i) ≡ false → false ≡ ascends? stored-before (upto count (point-at img))
 goes-down img count i l k t =
     let n : i ≡ i - 1 + 1 = omega arith in
-    sym (up-fails stored-before (point-at img) count (i - 1) (omega arith) (subst (λ (x : ℕ). stored-before (point-at img (i - 1)) (point-at img x) ≡ false) n t))
+    sym (pairs-fail stored-before (point-at img) count (i - 1) (omega arith) (subst (λ (x : ℕ). stored-before (point-at img (i - 1)) (point-at img x) ≡ false) n t))
 
 pub all-up : (img : List ℕ) (count i : ℕ) → count ≤ i → UpTo img i → true ≡ ascends? stored-before (upto count (point-at img))
-all-up img count i l h = sym (up-ascends stored-before count (point-at img) (λ a b p q. h a b p (omega arith)))
+all-up img count i l h = sym (ascends-upto stored-before count (point-at img) (λ a b p q. h a b p (omega arith)))
 
 -- ---- each record with those before it
 

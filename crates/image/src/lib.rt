@@ -20,6 +20,7 @@ ghost use Rattle.head.specs.HeadEdits.{put-row, put-mark};
 ghost use Rattle.record.specs.RecordGood.{record-good};
 ghost use Rattle.image.specs.Parts.{stored-count, stored-laid-out, Few, Ascending, parts-laid-out, parts-good};
 ghost use Rattle.image.specs.Edits.{Canonical, with-head, with-points, list-of, with-list};
+ghost use Rattle.image.specs.Places.{Point-in};
 ghost use Rattle.image.specs.Apart.{apart, apart-from-earlier, point-at, dot-listed-for, listed-for, all-apart};
 
 // The number of stored points: "then points .., then blocks of zeros", so up to the first block of kind 0.
@@ -103,6 +104,31 @@ pub fn points_ascend(image: &[u8], count: usize) -> bool
     true
 }
 
+// Where the point is stored, by halves, or the place before which it would stand.
+pub fn find_point(image: &[u8], count: usize, k: Key) -> Found
+    requires { ⌜ (length (now image) ≡ image-length)
+        × (count ≤ 64)
+        × (ascends? stored-before (upto count (point-at (now image))) ≡ true) ⌝ }
+    ensures { λ r. ⌜ Point-in (upto count (point-at (now (image .entry)))) k r ⌝ }
+{
+    let mut low: usize = 0;
+    let mut high = count;
+    while low < high {
+        let mid = low + (high - low) / 2;
+        let at = 512 * (3 + mid);
+        let there = record::key_of(&image[at..at + 512]);
+        if there.before(k) {
+            low = mid + 1;
+        } else {
+            if !k.before(there) {
+                return Found::At(mid);
+            }
+            high = mid;
+        }
+    }
+    Found::Before(low)
+}
+
 // Each stored point passes the clauses of a good state that speak of one record.
 pub fn records_good(image: &[u8], count: usize, own: Controller, table: &[u8], rows: &[u8]) -> bool
     requires { ⌜ (length (now image) ≡ image-length) × (count ≤ 64) × Few (now image) count × (length (now table) ≡ 8) × (length (now rows) ≡ 96) × Crew own ⌝ }
@@ -182,7 +208,7 @@ pub fn dot_listed_for(list: &[u8], d: Dot, k: Key) -> bool
             let there = dots::entry_key(list, i);
             there.same(k)
         }
-        Found::Nothing => true,
+        Found::Before(_) => true,
     }
 }
 

@@ -7,14 +7,16 @@ use native.Mathlib.Omega.{arith}
 use borrow.Author.Tests.{not-true, not-false}
 use Rattle.numbers.specs.declared.Dot.{Dot}
 use Rattle.numbers.specs.Dot.{dot-before}
+use Rattle.numbers.proofs.Dots.{dot-order}
 use Rattle.block.specs.Fields.{field}
+use Rattle.block.proofs.Search.{Between, nothing-yet, upper-half, lower-half}
 use Rattle.dots.specs.Entries.{entry}
-use Rattle.dots.proofs.Search.{Between, nothing-yet, upper-half, lower-half, all-pairs, found-at, found-nowhere}
+use Rattle.dots.proofs.Search.{all-pairs, found-at, found-before}
 use Rattle.dots.proofs.find_dot.Statement.{statement}
 use Rattle.dots.proofs.find_dot.Tie as tie
 
 abbrev Inv-loop : tie.InvT-loop
-Inv-loop b d low₀ high₀ low high = Between (entry b) (field b 4 2) d low high
+Inv-loop b d low₀ high₀ low high = Between dot-before (field b 4 2) (λ j. entry b j .dot) d low high
 
 abbrev μ-loop : tie.MeasureT-loop
 μ-loop b d low₀ high₀ low high = high - low
@@ -52,7 +54,7 @@ loop-again : tie.Need-loop-again Inv-loop μ-loop
 loop-again c =
     let a = c .before .before .before .before .before .before .before .args in
     let s = c .before .before .before .before .loop in
-    upper-half (s .inv) (s .low + (s .high - s .low) / 2)
+    upper-half dot-order (s .inv) (s .low + (s .high - s .low) / 2)
     (omega arith) (omega arith) (ap (λ (x : Dot). dot-before x (a .d)) (sym (c .before .before .entry-dot .ensures)) ∙ sym (c .before .dot-before .ensures) ∙ c .if1 .taken)
 
 dot-before-requires-2 : tie.Need-dot-before-requires-2 Inv-loop μ-loop
@@ -74,14 +76,14 @@ loop-again-2 : tie.Need-loop-again-2 Inv-loop μ-loop
 loop-again-2 c =
     let a = c .before .before .before .before .before .before .before .before .before .args in
     let s = c .before .before .before .before .before .before .loop in
-    lower-half (s .inv)
+    lower-half dot-order (s .inv)
     (s .low + (s .high - s .low) / 2)
     (omega arith) (omega arith) (ap (dot-before (a .d)) (sym (c .before .before .before .before .entry-dot .ensures)) ∙ sym (c .before .dot-before2 .ensures) ∙ not-false _ (c .if2 .left))
 
 returns-2 : tie.Need-returns-2 Inv-loop μ-loop
 returns-2 c =
     let a = c .before .before .before .before .args in
-    found-nowhere (now (a .b)) (search needs) (a .d) (c .before .loop .inv) (c .loop-test .left)
+    found-before (now (a .b)) (search needs) (a .d) (c .before .loop .inv) (c .loop-test .left)
 
 pub find-dot-spec : {M : Type 1} → statement M
 find-dot-spec =

@@ -28,7 +28,7 @@ returns : tie.Need-returns
 returns c = found-there (c .before .before .before .before .before .before .before .args .list .now) (c .before .before .before .before .before .before .before .pre .1) (c .before .before .before .before .before .before .before .args .d) (c .before .before .before .before .before .before .before .args .k) (c .before .before .before .before .before .find-dot .result) (c .before .before .before .i .given .0 .0) (c .before .entry-key .result) (c .same .result) (c .before .before .before .before .before .before .before .pre .2) (c .before .before .before .i .given .1) (c .before .before .before .before .before .find-dot .ensures) (c .before .entry-key .ensures) (c .same .ensures)
 
 returns-2 : tie.Need-returns-2
-returns-2 c = found-none (c .before .before .before .before .args .list .now) (c .before .before .before .before .pre .1) (c .before .before .before .before .args .d) (c .before .before .before .before .args .k) (c .before .before .find-dot .result) (c .enum-told .given .1) (c .before .before .find-dot .ensures)
+returns-2 c = found-none (c .before .before .before .before .args .list .now) (c .before .before .before .before .pre .1) (c .before .before .before .before .args .d) (c .before .before .before .before .args .k) (c .before .before .find-dot .result) (c .enum-told .given .0 .0) (c .enum-told .given .1) (c .before .before .find-dot .ensures)
 
 pub dot-listed-for-spec : {M : Type 1} → statement M
 dot-listed-for-spec =

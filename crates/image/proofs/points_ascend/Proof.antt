@@ -3,7 +3,7 @@ use native.Mathlib.Omega.{arith}
 use Prim.Native.Nat.{_≤_, _-_}
 use Rattle.block.proofs.Passing.{said-no, said-yes}
 use Rattle.meaning.specs.State.{stored-before}
-use Rattle.image.proofs.InOrder.{up-one}
+use Rattle.block.proofs.ByIndex.{pairs-one}
 use Rattle.image.proofs.Loops.{UpTo, neighbours, goes-up, goes-down, all-up}
 use Rattle.image.proofs.points_ascend.Statement.{statement}
 use Rattle.image.proofs.points_ascend.Tie as tie
@@ -19,7 +19,7 @@ abbrev μ-loop : tie.MeasureT-loop
 μ-loop image count i₀ i = count - i
 
 loop-holds : tie.Need-loop-holds Inv-loop μ-loop
-loop-holds c = (omega arith, up-one stored-before (point-at (c .before .args .image .now)))
+loop-holds c = (omega arith, pairs-one stored-before (point-at (c .before .args .image .now)))
 
 add-at : tie.Need-add-at Inv-loop μ-loop
 add-at c = omega arith
