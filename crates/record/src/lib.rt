@@ -455,13 +455,13 @@ pub fn write_empty(b: &mut [u8], kind: u8, position: u16, sender: Controller, k:
 }
 
 // The same point as another kind of block, at another place, from another sender: a record as a message, a message as a record.
-pub fn relabel(b: &mut [u8], kind: u8, position: u16, sender: Controller)
+pub fn relabel(b: &mut [u8], kind: u8, position: u16, from: Controller)
     requires { ⌜ (length (now b) ≡ 512) × Laid lay-point point-block (now b) ⌝ }
-    ensures { λ _. ⌜ (point-block (now (b .exit)) ≡ relabelled (point-block (now (b .entry))) kind position sender) × Laid lay-point point-block (now (b .exit)) ⌝ }
+    ensures { λ _. ⌜ (point-block (now (b .exit)) ≡ relabelled (point-block (now (b .entry))) kind position from) × Laid lay-point point-block (now (b .exit)) ⌝ }
 {
     block::put_u8(b, 0, kind);
     block::put_u16(b, 2, position);
-    block::put_u8(b, 296, sender.0);
+    block::put_u8(b, 296, from.0);
 }
 
 // The context's counter for controller n.

@@ -25,7 +25,7 @@ same-length : tie.Need-same-length
 same-length c = search needs
 
 returns : tie.Need-returns
-returns c = let b = now (c .before .before .before .before .before .before .before .before .before .before .before .before .before .args .b) in let small = bytes-of (now (c .before .before .before .before .before .before .before .before .before .before .before .before .before .args .b)) (c .before .before .before .before .before .before .before .before .before .before .before .before .slice-known .given) in let p = c .before .before .before .before .before .before .before .before .before .before .before .before .before .pre in relabelled-is b small (p .0) (p .1) _ _ _ (c .before .before .before .before .before .before .before .before .before .before .before .before .before .args .kind) (c .before .before .before .before .before .before .before .before .before .before .before .before .before .args .position) (c .before .before .before .before .before .before .before .before .before .before .before .before .before .args .sender) (omega arith) (omega arith) (search needs) (c .before .before .before .before .before .before .before .before .before .before .put-u8 .ensures) (c .before .before .before .before .before .before .put-u16 .ensures) (c .before .before .put-u82 .ensures)
+returns c = let b = now (c .before .before .before .before .before .before .before .before .before .before .before .before .before .args .b) in let small = bytes-of (now (c .before .before .before .before .before .before .before .before .before .before .before .before .before .args .b)) (c .before .before .before .before .before .before .before .before .before .before .before .before .slice-known .given) in let p = c .before .before .before .before .before .before .before .before .before .before .before .before .before .pre in relabelled-is b small (p .0) (p .1) _ _ _ (c .before .before .before .before .before .before .before .before .before .before .before .before .before .args .kind) (c .before .before .before .before .before .before .before .before .before .before .before .before .before .args .position) (c .before .before .before .before .before .before .before .before .before .before .before .before .before .args .from) (omega arith) (omega arith) (search needs) (c .before .before .before .before .before .before .before .before .before .before .put-u8 .ensures) (c .before .before .before .before .before .before .put-u16 .ensures) (c .before .before .put-u82 .ensures)
 
 pub relabel-spec : {M : Type 1} → statement M
 relabel-spec =
