@@ -124,7 +124,7 @@ context-empty b e =
     all-upto (λ (x : Counter). eqb (x .0) 0) 8 (λ i. counter (field (cut b 8 32) (4 * i) 4)) ∙ zero-fields (cut b 8 32) (length-cut b 8 32 (omega arith))
 
 -- "255 = deleted"
-said-deleted : (b : List ℕ) (i : ℕ) → not (has-value (version-at b i .contents)) ≡ eqb (field b (41 + 32 * i) 1) 255
+pub said-deleted : (b : List ℕ) (i : ℕ) → not (has-value (version-at b i .contents)) ≡ eqb (field b (41 + 32 * i) 1) 255
 unfolding decode-slot decode-contents
 said-deleted b i = by-test (eqb n 255) (λ t. rw t) (λ t. rw t) ∙ ap (λ (m : ℕ). eqb m 255) there
   where

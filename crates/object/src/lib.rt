@@ -1,0 +1,108 @@
+// Fill, strip, and what goes of a point's versions, in one point block of the lent bytes. The block's check is made after the last of them.
+use numbers::Controller;
+use numbers::Counter;
+use numbers::Dot;
+ghost use mathlib.Core.Path.{_≡_};
+ghost use mathlib.Core.Bool.{true, not};
+ghost use Prim.Native.Nat.{_≤_, _<_, max};
+ghost use lib.ListN.{length};
+ghost use lib.Dec.{leb};
+ghost use Rattle.numbers.specs.Words.{if_then_else_, keep, map};
+ghost use Rattle.numbers.specs.Numbers.{counter, Crew};
+ghost use Rattle.block.specs.Block.{Laid};
+ghost use Rattle.meaning.specs.Context.{covers};
+ghost use Rattle.meaning.specs.Object.{has-value, fill, strip};
+ghost use Rattle.layout.specs.PointBlock.{form-1, decode-point};
+ghost use Rattle.layout.specs.Clocks.{decode-clock};
+ghost use Rattle.record.specs.Crewed.{crewed};
+ghost use Rattle.record.specs.Written.{lay-point, point-block, with-object, with-versions};
+
+fn filled_entry(e: Counter, holder: bool, base: u32) -> Counter
+    ensures { λ r. ⌜ r ≡ (if holder then counter (max (e .0) base) else e) ⌝ }
+{
+    if holder {
+        if e.0 < base {
+            return Counter(base);
+        }
+    }
+    e
+}
+
+fn stripped_entry(e: Counter, base: u32) -> Counter
+    ensures { λ r. ⌜ r ≡ (if leb (e .0) base then counter 0 else e) ⌝ }
+{
+    if e.0 <= base {
+        return Counter(0);
+    }
+    e
+}
+
+// "Fill raises each context entry n, for n holding the point's job, to the base of row n."
+pub fn fill_in(b: &mut [u8], table: &[u8], rows: &[u8])
+    requires { ⌜ (length (now b) ≡ 512) × Laid lay-point point-block (now b) × (length (now table) ≡ 8) × (length (now rows) ≡ 96) ⌝ }
+    ensures { λ _. ⌜ (point-block (now (b .exit)) ≡ with-object (point-block (now (b .entry))) (fill (now (table .entry)) (decode-point form-1 (now (b .entry)) .key .job) (decode-clock (now (rows .entry))) (decode-point form-1 (now (b .entry)) .object)))
+        × Laid lay-point point-block (now (b .exit)) ⌝ }
+{
+    let job = block::u8_at(b, 4);
+    let mut i: u8 = 0;
+    while i < 8 {
+        let n = Controller(i + 1);
+        let e = record::context_entry(b, n);
+        let r = parts::row_at(rows, n);
+        let filled = filled_entry(e, parts::holds(table, n, job), r.base);
+        record::set_entry(b, n, filled);
+        i += 1;
+    }
+}
+
+// "Strip sets to 0 each entry not above its base."
+pub fn strip_off(b: &mut [u8], rows: &[u8])
+    requires { ⌜ (length (now b) ≡ 512) × Laid lay-point point-block (now b) × (length (now rows) ≡ 96) ⌝ }
+    ensures { λ _. ⌜ (point-block (now (b .exit)) ≡ with-object (point-block (now (b .entry))) (strip (decode-clock (now (rows .entry))) (decode-point form-1 (now (b .entry)) .object))) × Laid lay-point point-block (now (b .exit)) ⌝ }
+{
+    let mut i: u8 = 0;
+    while i < 8 {
+        let n = Controller(i + 1);
+        let e = record::context_entry(b, n);
+        let r = parts::row_at(rows, n);
+        record::set_entry(b, n, stripped_entry(e, r.base));
+        i += 1;
+    }
+}
+
+// The versions that are deletions go. The last is looked at first, so that those still to come stand where they stood.
+pub fn drop_deleted(b: &mut [u8])
+    requires { ⌜ (length (now b) ≡ 512) × Laid lay-point point-block (now b) ⌝ }
+    ensures { λ _. ⌜ (point-block (now (b .exit)) ≡ with-versions (point-block (now (b .entry))) (keep (λ v. has-value (v .contents)) (decode-point form-1 (now (b .entry)) .object .versions))) × Laid lay-point point-block (now (b .exit)) ⌝ }
+{
+    let mut i = record::version_count(b) as usize;
+    while 0 < i {
+        i -= 1;
+        if record::said_length(b, i) == 255 {
+            record::remove_version(b, i);
+        }
+    }
+}
+
+// A given context of eight counters covers the dot.
+pub fn given_covers(context: &[u32], d: Dot) -> bool
+    requires { ⌜ (length (now context) ≡ 8) × Crew (d .who) ⌝ }
+    ensures { λ r. ⌜ r ≡ covers (map counter (now (context .entry))) d ⌝ }
+{
+    let who = d.who.0;
+    d.count.0 <= context[(who - 1) as usize]
+}
+
+// "drop the versions that the given context covers"
+pub fn drop_covered(b: &mut [u8], context: &[u32])
+    requires { ⌜ (length (now b) ≡ 512) × Laid lay-point point-block (now b) × (length (now context) ≡ 8) × (crewed (decode-point form-1 (now b) .object .versions) ≡ true) ⌝ }
+    ensures { λ _. ⌜ (point-block (now (b .exit)) ≡ with-versions (point-block (now (b .entry))) (keep (λ v. not (covers (map counter (now (context .entry))) (v .dot))) (decode-point form-1 (now (b .entry)) .object .versions))) × Laid lay-point point-block (now (b .exit)) ⌝ }
+{
+    let mut i = record::version_count(b) as usize;
+    while 0 < i {
+        i -= 1;
+        if given_covers(context, record::version_dot(b, i)) {
+            record::remove_version(b, i);
+        }
+    }
+}
