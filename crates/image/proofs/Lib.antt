@@ -12,3 +12,4 @@ pub mod Closing
 pub mod Lifting
 pub mod Finding
 pub mod Placing
+pub mod Fetching

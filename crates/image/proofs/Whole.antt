@@ -139,15 +139,15 @@ module _ (img : List ℕ) (e : length img ≡ image-length) where
       ∷ dots-apart (decode img)
       ∷ []
 
-  table-is : decode-head (cut img 0 512) .table ≡ cut img 8 8
+  pub table-is : decode-head (cut img 0 512) .table ≡ cut img 8 8
   table-is = ap (λ (x : Head). x .table) (parts-of-head (cut img 0 512) (unfold block-at in block-length img 0 (omega arith))) ∙ cut-cut img 0 512 8 8 (omega arith)
 
-  clock-is : decode-head (cut img 0 512) .clock ≡ decode-clock (cut img 16 96)
+  pub clock-is : decode-head (cut img 0 512) .clock ≡ decode-clock (cut img 16 96)
   unfolding decode-head
   clock-is = ap decode-clock (cut-cut img 0 512 16 96 (omega arith))
 
   -- the state's parts, as the bytes say them
-  head-is : head-of (decode img) ≡ decode-head (cut img 0 512)
+  pub head-is : head-of (decode img) ≡ decode-head (cut img 0 512)
   unfolding decode block-at
   head-is = refl
 

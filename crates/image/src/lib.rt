@@ -11,13 +11,15 @@ ghost use lib.ListN.{length};
 ghost use Rattle.numbers.specs.Words.{every, ascends?};
 ghost use Rattle.numbers.specs.Numbers.{Crew};
 ghost use Rattle.block.specs.Fields.{cut, insert-at, remove-at, field, upto};
+ghost use Rattle.block.specs.Block.{Laid};
 ghost use Rattle.meaning.specs.Object.{has-dot, no-object};
-ghost use Rattle.meaning.specs.State.{stored-before, listed-before};
+ghost use Rattle.meaning.specs.State.{stored-before, listed-before, look-up};
 ghost use Rattle.layout.specs.PointBlock.{form-1, decode-stored};
 ghost use Rattle.layout.specs.Clocks.{decode-clock};
 ghost use Rattle.layout.specs.Image.{image-length, head-of, decode, decode-dots, goodImage};
 ghost use Rattle.head.specs.HeadEdits.{put-row, put-mark};
 ghost use Rattle.record.specs.RecordGood.{record-good};
+ghost use Rattle.record.specs.Written.{lay-point, point-block};
 ghost use Rattle.image.specs.Parts.{stored-count, stored-laid-out, Few, Ascending, parts-laid-out, parts-good};
 ghost use Rattle.image.specs.Edits.{Canonical, with-head, with-points, list-of, with-list};
 ghost use Rattle.image.specs.Places.{Point-in};
@@ -127,6 +129,21 @@ pub fn find_point(image: &[u8], count: usize, k: Key) -> Found
         }
     }
     Found::Before(low)
+}
+
+// The object that is stored for the point k, or the empty one where there is no record, as a block of its own, but for its check.
+pub fn fetch(image: &[u8], count: usize, k: Key, kind: u8, sender: Controller, out: &mut [u8])
+    requires { ⌜ (length (now image) ≡ image-length) × Canonical (now image) × (count ≡ length (decode (now image) .points)) × (ascends? stored-before (decode (now image) .points) ≡ true) × (length (now out) ≡ 512) ⌝ }
+    ensures { λ _. ⌜ (point-block (now (out .exit)) ≡ record { kind = kind; position = 0; point = record { sender = sender; key = k; object = look-up k (decode (now (image .entry)) .points) } }) × Laid lay-point point-block (now (out .exit)) ⌝ }
+{
+    match find_point(image, count, k) {
+        Found::At(i) => {
+            let at = 512 * (3 + i);
+            block::copy_in(out, 0, &image[at..at + 512]);
+            record::relabel(out, kind, 0, sender);
+        }
+        Found::Before(_) => record::write_empty(out, kind, 0, sender, k),
+    }
 }
 
 // Each stored point passes the clauses of a good state that speak of one record.
@@ -314,12 +331,12 @@ pub fn open_place(image: &mut [u8], count: usize, i: usize, k: Key)
     ensures { λ _. ⌜ (decode (now (image .exit)) ≡ with-points (decode (now (image .entry))) (insert-at (decode (now (image .entry)) .points) i (record { key = k; object = no-object })))
         × Canonical (now (image .exit)) ⌝ }
 {
-    let mut j = count;
-    while i < j {
-        let at = 512 * (3 + j);
+    let mut to = count;
+    while i < to {
+        let at = 512 * (3 + to);
         block::move_up(image, at - 512, at, 64);
-        record::renumber(&mut image[at..at + 512], (3 + j) as u16);
-        j -= 1;
+        record::renumber(&mut image[at..at + 512], (3 + to) as u16);
+        to -= 1;
     }
     let free = 512 * (3 + i);
     record::write_empty(

@@ -352,15 +352,19 @@ module _ (b : List ℕ) (small : Bytes b) (size : length b ≡ 512) (laid : Laid
 
 -- ---- a stored point
 
--- a block that is laid out, its check too, is so but for its check
-pub laid-as : (w : Written) → Sized w → (b : List ℕ) → length b ≡ 512 → b ≡ lay-point w → Laid lay-point point-block b
-laid-as w S b size e =
+-- a block that is laid out, its check too, says so, and is laid out but for its check
+pub says-so : (w : Written) → Sized w → (b : List ℕ) → length b ≡ 512 → b ≡ lay-point w → (point-block b ≡ w) × Laid lay-point point-block b
+says-so w S b size e =
     becomes w S b
     (subst (Body b) (bytes-are w S)
-    (sealed-body (body (w .kind) 1 (w .position) (content (w .point))) b size (body-length (w .kind) 1 (w .position) (content (w .point)) (short form-1 (omega arith) 0 0 (w .point) (S .point))) (e ∙ (unfold encode-point make-block in refl)))) .1
+    (sealed-body (body (w .kind) 1 (w .position) (content (w .point))) b size (body-length (w .kind) 1 (w .position) (content (w .point)) (short form-1 (omega arith) 0 0 (w .point) (S .point))) (e ∙ (unfold encode-point make-block in refl))))
+
+pub stored-says : (position : ℕ) (p : Stored) (b : List ℕ) → position < 65536 → StoredSized p → length b ≡ 512 → b ≡ encode-stored form-1 position p
+    → (point-block b ≡ record { kind = 3; position = position; point = unsent p }) × Laid lay-point point-block b
+stored-says position p b h S size e = says-so (record { kind = 3; position = position; point = unsent p }) (record { kind = omega arith; position = h; point = S }) b size (e ∙ (unfold encode-stored in refl))
 
 pub stored-laid : (position : ℕ) (p : Stored) (b : List ℕ) → position < 65536 → StoredSized p → length b ≡ 512 → b ≡ encode-stored form-1 position p → Laid lay-point point-block b
-stored-laid position p b h S size e = laid-as (record { kind = 3; position = position; point = unsent p }) (record { kind = omega arith; position = h; point = S }) b size (e ∙ (unfold encode-stored in refl))
+stored-laid position p b h S size e = stored-says position p b h S size e .1
 
 pub renumbered : (b b1 x : List ℕ) (position : ℕ) → (point-block b1 ≡ relabelled (point-block b) 3 position (controller 0)) × Laid lay-point point-block b1 → x ≡ seal (take 508 b1) → x ≡ encode-stored form-1 position (decode-stored form-1 b)
 unfolding encode-stored decode-stored resealed

@@ -17,10 +17,10 @@ use Rattle.record.proofs.renumber.Reads as renumber-reads
 use Rattle.record.proofs.write_empty.Reads as write-empty-reads
 
 abbrev Inv-loop : tie.InvT-loop
-Inv-loop image₀ count i k j₀ image j = Opening (decode image₀) i j image
+Inv-loop image₀ count i k to₀ image to = Opening (decode image₀) i to image
 
 abbrev μ-loop : tie.MeasureT-loop
-μ-loop image₀ count i k j₀ image j = j - i
+μ-loop image₀ count i k to₀ image to = to - i
 
 loop-holds : tie.Need-loop-holds Inv-loop μ-loop
 loop-holds c = let img = now (c .before .args .image) in let small = bytes-of (now (c .before .args .image)) (c .slice-known .given) in let p = c .before .pre in let s = decode (now (c .before .args .image)) in let S = image-decoded (now (c .before .args .image)) small (p .0) in opening-none s S (c .before .args .i) img (c .before .args .count) (p .2) (p .3) (canonical-blocks img small (p .0) (p .1))
@@ -56,16 +56,16 @@ cast-renumber : tie.Need-cast-renumber Inv-loop μ-loop
 cast-renumber c = let O = c .before .before .before .before .before .before .loop .inv in let p = c .before .before .before .before .before .before .before .before .pre in omega (arith, O .size, O .low, O .high, p .2)
 
 renumber-requires : tie.Need-renumber-requires Inv-loop μ-loop
-renumber-requires c κs = let img = now (c .before .before .before .before .before .before .before .before .args .image) in let small = bytes-of (now (c .before .before .before .before .before .before .before .before .args .image)) (c .before .before .before .before .before .before .before .slice-known .given) in let p = c .before .before .before .before .before .before .before .before .pre in let s = decode (now (c .before .before .before .before .before .before .before .before .args .image)) in let S = image-decoded (now (c .before .before .before .before .before .before .before .before .args .image)) small (p .0) in let O = c .before .before .before .before .before .before .loop .inv in (opening-size s S (c .before .before .before .before .before .before .before .before .args .i) (c .before .before .before .before .before .before .loop .image) _ (c .before .before .before .before .before .before .loop .image) (c .before .before .before .before .before .before .loop .j) O (omega (arith, p .2)) (c .before .before .before .before .before .loop-test .taken) (c .before .before .before .move-up .ensures), opening-laid s S (c .before .before .before .before .before .before .before .before .args .i) (c .before .before .before .before .before .before .loop .image) _ (c .before .before .before .before .before .before .loop .image) (c .before .before .before .before .before .before .loop .j) O (omega (arith, p .2)) (c .before .before .before .before .before .loop-test .taken) (c .before .before .before .move-up .ensures))
+renumber-requires c κs = let img = now (c .before .before .before .before .before .before .before .before .args .image) in let small = bytes-of (now (c .before .before .before .before .before .before .before .before .args .image)) (c .before .before .before .before .before .before .before .slice-known .given) in let p = c .before .before .before .before .before .before .before .before .pre in let s = decode (now (c .before .before .before .before .before .before .before .before .args .image)) in let S = image-decoded (now (c .before .before .before .before .before .before .before .before .args .image)) small (p .0) in let O = c .before .before .before .before .before .before .loop .inv in (opening-size s S (c .before .before .before .before .before .before .before .before .args .i) (c .before .before .before .before .before .before .loop .image) _ (c .before .before .before .before .before .before .loop .image) (c .before .before .before .before .before .before .loop .to) O (omega (arith, p .2)) (c .before .before .before .before .before .loop-test .taken) (c .before .before .before .move-up .ensures), opening-laid s S (c .before .before .before .before .before .before .before .before .args .i) (c .before .before .before .before .before .before .loop .image) _ (c .before .before .before .before .before .before .loop .image) (c .before .before .before .before .before .before .loop .to) O (omega (arith, p .2)) (c .before .before .before .before .before .loop-test .taken) (c .before .before .before .move-up .ensures))
 
-sub-j : tie.Need-sub-j Inv-loop μ-loop
-sub-j c = let O = c .before .before .before .before .before .before .before .before .before .loop .inv in let p = c .before .before .before .before .before .before .before .before .before .before .before .pre in omega (arith, O .size, O .low, O .high, p .2)
+sub-to : tie.Need-sub-to Inv-loop μ-loop
+sub-to c = let O = c .before .before .before .before .before .before .before .before .before .loop .inv in let p = c .before .before .before .before .before .before .before .before .before .before .before .pre in omega (arith, O .size, O .low, O .high, p .2)
 
 loop-less : tie.Need-loop-less Inv-loop μ-loop
 loop-less c = let O = c .before .before .before .before .before .before .before .before .before .loop .inv in let p = c .before .before .before .before .before .before .before .before .before .before .before .pre in omega (arith, O .size, O .low, O .high, p .2)
 
 loop-again : tie.Need-loop-again Inv-loop μ-loop
-loop-again c = let img = now (c .before .before .before .before .before .before .before .before .before .before .before .args .image) in let small = bytes-of (now (c .before .before .before .before .before .before .before .before .before .before .before .args .image)) (c .before .before .before .before .before .before .before .before .before .before .slice-known .given) in let p = c .before .before .before .before .before .before .before .before .before .before .before .pre in let s = decode (now (c .before .before .before .before .before .before .before .before .before .before .before .args .image)) in let S = image-decoded (now (c .before .before .before .before .before .before .before .before .before .before .before .args .image)) small (p .0) in let O = c .before .before .before .before .before .before .before .before .before .loop .inv in opening-more s S (c .before .before .before .before .before .before .before .before .before .before .before .args .i) (c .before .before .before .before .before .before .before .before .before .loop .image) _ _ (c .before .before .before .before .before .before .before .before .before .loop .j) O (omega (arith, p .2)) (c .before .before .before .before .before .before .before .before .loop-test .taken) (c .before .before .before .before .before .before .move-up .ensures) _ (c .before .before .renumber .ensures) refl
+loop-again c = let img = now (c .before .before .before .before .before .before .before .before .before .before .before .args .image) in let small = bytes-of (now (c .before .before .before .before .before .before .before .before .before .before .before .args .image)) (c .before .before .before .before .before .before .before .before .before .before .slice-known .given) in let p = c .before .before .before .before .before .before .before .before .before .before .before .pre in let s = decode (now (c .before .before .before .before .before .before .before .before .before .before .before .args .image)) in let S = image-decoded (now (c .before .before .before .before .before .before .before .before .before .before .before .args .image)) small (p .0) in let O = c .before .before .before .before .before .before .before .before .before .loop .inv in opening-more s S (c .before .before .before .before .before .before .before .before .before .before .before .args .i) (c .before .before .before .before .before .before .before .before .before .loop .image) _ _ (c .before .before .before .before .before .before .before .before .before .loop .to) O (omega (arith, p .2)) (c .before .before .before .before .before .before .before .before .loop-test .taken) (c .before .before .before .before .before .before .move-up .ensures) _ (c .before .before .renumber .ensures) refl
 
 add-free : tie.Need-add-free Inv-loop μ-loop
 add-free c = let O = c .before .loop .inv in let p = c .before .before .before .pre in omega (arith, O .size, O .low, O .high, p .2)
@@ -98,7 +98,7 @@ same-length : tie.Need-same-length Inv-loop μ-loop
 same-length c = let O = c .before .before .before .before .before .loop .inv in let p = c .before .before .before .before .before .before .before .pre in omega (arith, O .size, O .low, O .high, p .2)
 
 returns : tie.Need-returns Inv-loop μ-loop
-returns c = let img = now (c .before .before .before .before .before .before .before .args .image) in let small = bytes-of (now (c .before .before .before .before .before .before .before .args .image)) (c .before .before .before .before .before .before .slice-known .given) in let p = c .before .before .before .before .before .before .before .pre in let s = decode (now (c .before .before .before .before .before .before .before .args .image)) in let S = image-decoded (now (c .before .before .before .before .before .before .before .args .image)) small (p .0) in let O = c .before .before .before .before .before .loop .inv in opened s S (c .before .before .before .before .before .before .before .args .i) (c .before .before .before .before .before .loop .image) _ (c .before .before .before .before .before .loop .j) (c .before .before .before .before .before .before .before .args .k) _ (search needs) (search needs) (omega (arith, p .2)) O (c .before .before .before .before .loop-test .left) (c .before .before .write-empty .ensures) refl
+returns c = let img = now (c .before .before .before .before .before .before .before .args .image) in let small = bytes-of (now (c .before .before .before .before .before .before .before .args .image)) (c .before .before .before .before .before .before .slice-known .given) in let p = c .before .before .before .before .before .before .before .pre in let s = decode (now (c .before .before .before .before .before .before .before .args .image)) in let S = image-decoded (now (c .before .before .before .before .before .before .before .args .image)) small (p .0) in let O = c .before .before .before .before .before .loop .inv in opened s S (c .before .before .before .before .before .before .before .args .i) (c .before .before .before .before .before .loop .image) _ (c .before .before .before .before .before .loop .to) (c .before .before .before .before .before .before .before .args .k) _ (search needs) (search needs) (omega (arith, p .2)) O (c .before .before .before .before .loop-test .left) (c .before .before .write-empty .ensures) refl
 
 pub open-place-spec : {M : Type 1} → statement M
 open-place-spec =
@@ -118,7 +118,7 @@ open-place-spec =
     add-renumber-2
     cast-renumber
     renumber-requires
-    sub-j
+    sub-to
     loop-less
     loop-again
     add-free
