@@ -84,7 +84,7 @@ module _ (img : List ℕ) (small : Bytes img) (size : length img ≡ image-lengt
         pub fetched : (y : List ℕ) → (point-block y ≡ relabelled (point-block x) kind 0 sender) × Laid lay-point point-block y → (point-block y ≡ record { kind = kind; position = 0; point = record { sender = sender; key = k; object = look-up k (decode img .points) } }) × Laid lay-point point-block y
         fetched y r = (
           r .0 ∙ ap (λ (w : Written). relabelled w kind 0 sender) (says .0)
-          ∙ (λ j. record { kind = kind; position = 0; point = record { sender = sender; key = there .1 j; object = sym (look-up-at k ps i up there) j } }),
+              ∙ (λ j. record { kind = kind; position = 0; point = record { sender = sender; key = there .1 j; object = sym (look-up-at k ps i up there) j } }),
           r .1,
         )
 

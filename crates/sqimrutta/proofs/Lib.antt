@@ -1,2 +1,4 @@
 pub mod Fresh
 pub mod Starting
+pub mod Ladder
+pub mod Reading

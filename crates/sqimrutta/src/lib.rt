@@ -1,16 +1,21 @@
 // The calls on lent buffers: check, judge, apply. No lent byte is written before every refusal is excluded.
+use numbers::Key;
+use numbers::Point;
 use refusal::Refusal;
 use refusal::Verdict;
 ghost use mathlib.Core.Path.{_≡_};
 ghost use Prim.Native.Nat.{_≤_, _<_};
+ghost use mathlib.Core.Bool.{true};
 ghost use mathlib.Core.List.{[]};
 ghost use lib.ListN.{length};
-ghost use Rattle.numbers.specs.Numbers.{controller};
+ghost use Rattle.numbers.specs.Numbers.{controller, Crew};
 ghost use Rattle.numbers.specs.Words.{if_then_else_};
 ghost use Rattle.refusal.specs.Refusal.{answer-number};
-ghost use Rattle.meaning.specs.OwnSteps.{fresh};
-ghost use Rattle.layout.specs.Image.{image-length, head-of, encode-head, encode-dots, encode, goodImage};
-ghost use Rattle.layout.specs.Calls.{start-call};
+ghost use Rattle.meaning.specs.State.{local};
+ghost use Rattle.meaning.specs.OwnSteps.{fresh, ours, shown};
+ghost use Rattle.layout.specs.Image.{image-length, head-of, encode-head, encode-dots, encode, decode, goodImage};
+ghost use Rattle.layout.specs.Messages.{encode-reading};
+ghost use Rattle.layout.specs.Calls.{start-call, read-call};
 
 // A fresh head: the own number and the table, and nothing seen.
 fn write_fresh_head(b: &mut [u8], number: u8, table: &[u8])
@@ -84,4 +89,64 @@ pub extern "C" fn sqimrutta_good(image: &[u8]) -> u32
         return 1;
     }
     0
+}
+
+// ---- reading
+
+// 5: the arguments are in their ranges, and the job is held here.
+fn is_ours(image: &[u8], k: Key) -> bool
+    requires { ⌜ (length (now image) ≡ image-length) × Crew (decode (now image) .own) ⌝ }
+    ensures { λ r. ⌜ r ≡ ours (decode (now (image .entry))) k ⌝ }
+{
+    let job = k.job;
+    if 7 < job {
+        return false;
+    }
+    if k.point.0 < 1 {
+        return false;
+    }
+    parts::holds(&image[8..16], head::own_of(&image[0..512]), job)
+}
+
+// "Read: the filled object without its deleted versions."
+fn write_reading(image: &[u8], k: Key, out: &mut [u8])
+    requires { ⌜ (length (now image) ≡ image-length) × (goodImage (now image) ≡ true) × (length (now out) ≡ 512) ⌝ }
+    ensures { λ _. ⌜ now (out .exit) ≡ encode-reading (record { sender = decode (now (image .entry)) .own; key = k; object = shown (local (decode (now (image .entry))) k) }) ⌝ }
+{
+    let own = head::own_of(&image[0..512]);
+    let count = image::stored_count(image);
+    image::fetch(image, count, k, 7, own, out);
+    object::fill_in(out, &image[8..16], &image[16..112]);
+    object::drop_deleted(out);
+    block::seal_block(out);
+}
+
+pub fn read(image: &[u8], job: u8, point: u16, out: &mut [u8]) -> Verdict
+    ensures { λ r. ⌜ (r ≡ read-call (now (image .entry)) job point (now (out .entry)) .verdict) × (now (out .exit) ≡ read-call (now (image .entry)) job point (now (out .entry)) .out) ⌝ }
+{
+    if image.len() != 34304 {
+        return Verdict::Refused(Refusal::WrongLength);
+    }
+    if out.len() != 512 {
+        return Verdict::Refused(Refusal::WrongLength);
+    }
+    if !image::good(image) {
+        return Verdict::Refused(Refusal::ImageNotGood);
+    }
+    let k = Key {
+        job: job,
+        point: Point(point),
+    };
+    if !is_ours(image, k) {
+        return Verdict::Refused(Refusal::OutOfRange);
+    }
+    write_reading(image, k, out);
+    Verdict::Accepted
+}
+
+#[no_mangle]
+pub extern "C" fn sqimrutta_read(image: &[u8], job: u8, point: u16, out: &mut [u8]) -> u32
+    ensures { λ r. ⌜ (r ≡ answer-number (read-call (now (image .entry)) job point (now (out .entry)) .verdict)) × (now (out .exit) ≡ read-call (now (image .entry)) job point (now (out .entry)) .out) ⌝ }
+{
+    read(image, job, point, out).number()
 }

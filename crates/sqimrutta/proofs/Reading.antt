@@ -1,0 +1,152 @@
+-- The definition of read, case by case, and the reading as it is written. Assumes nothing.
+use Prim.Native.Nat.{ℕ, _≤_, _<_}
+use mathlib.Core.Path.{_≡_, refl, ap, ap₂, sym, _∙_, subst}
+use mathlib.Core.Bool.{Bool, true, false, _&&_, not}
+use mathlib.Core.List.{List, []}
+use native.Mathlib.Omega.{arith}
+use lib.ListN.{length, take}
+use lib.Dec.{leb, eqb}
+use borrow.Author.Tests.{eq-eqb, ne-eqb, le-leb, lt-leb}
+use Rattle.numbers.specs.declared.Controller.{Controller}
+use Rattle.numbers.specs.declared.Key.{Key}
+use Rattle.numbers.specs.Words.{keep, ascends?}
+use Rattle.numbers.specs.Numbers.{controller, is-job, is-point, Crew}
+use Rattle.numbers.specs.Key.{key, is-key}
+use Rattle.refusal.specs.declared.Verdict.the-variants.{Accepted}
+use Rattle.refusal.specs.declared.Refusal.the-variants.{WrongLength, ImageNotGood, OutOfRange}
+use Rattle.refusal.specs.Refusal.{Answer, refused, accepted, refuse_when_else_, _>>=_}
+use Rattle.block.specs.Fields.{cut}
+use Rattle.block.proofs.Arrays.{upto-length}
+use Rattle.block.specs.Check.{seal}
+use Rattle.block.specs.Block.{block-at, resealed, Laid}
+use Rattle.meaning.specs.CrewTable.{CrewTable, holds}
+use Rattle.meaning.specs.Clock.{Clock}
+use Rattle.meaning.specs.Object.{has-value, Version, Object, fill}
+use Rattle.meaning.specs.State.{State, stored-before, look-up, local}
+use Rattle.meaning.specs.Message.{Outgoing}
+use Rattle.meaning.specs.OwnSteps.{ours, shown, read}
+use Rattle.laws.proofs.Goodness.{Good, good-facts}
+use Rattle.layout.specs.Clocks.{decode-clock}
+use Rattle.layout.specs.PointBlock.{form-1, encode-point, decode-point}
+use Rattle.layout.specs.Image.{image-length, Head, decode-head, encode, decode, goodImage}
+use Rattle.layout.specs.Messages.{encode-reading}
+use Rattle.layout.specs.Calls.{Left, After, afterwards, one-block, on-image, read-call}
+use Rattle.layout.proofs.CallsGood.{good-image}
+use Rattle.record.specs.Written.{Written, lay-point, point-block, with-object, with-versions}
+use Rattle.image.specs.Parts.{stored-count}
+use Rattle.image.specs.Apart.{point-at}
+use Rattle.image.proofs.Counted.{points-are}
+use Rattle.image.proofs.Whole.{table-is, clock-is, head-is}
+use Rattle.sqimrutta.proofs.Ladder.{leaves, refused-leaves, wrong-image, wrong-other, not-good, goes-on}
+
+-- ---- case by case
+
+module _ (img : List ℕ) (job point : ℕ) (out : List ℕ) where
+  abbrev step : State → Answer Left
+  step s = read s (key job point) >>= λ o. accepted (record { image = img; out = encode-reading o; count = 0 })
+
+  as-is : (a : Answer Left) → on-image (one-block out) img step ≡ a → read-call img job point out ≡ afterwards img out a
+  unfolding read-call
+  as-is a e = ap (afterwards img out) e
+
+  pub read-wrong-image : (length img ≡ image-length → ⊥) → read-call img job point out ≡ leaves WrongLength img out
+  unfolding afterwards
+  read-wrong-image h = as-is (refused WrongLength) (wrong-image (one-block out) img step h)
+
+  module _ (size : length img ≡ image-length) where
+    pub read-wrong-out : (length out ≡ 512 → ⊥) → read-call img job point out ≡ leaves WrongLength img out
+    unfolding afterwards
+    read-wrong-out h = as-is (refused WrongLength) (wrong-other (one-block out) img step size (ne-eqb (length out) 512 h))
+
+    module _ (room : length out ≡ 512) where
+      block : one-block out ≡ true
+      block = eq-eqb (length out) 512 room
+
+      pub read-not-good : goodImage img ≡ false → read-call img job point out ≡ leaves ImageNotGood img out
+      unfolding afterwards
+      read-not-good h = as-is (refused ImageNotGood) (not-good (one-block out) img step size block h)
+
+      module _ (good : goodImage img ≡ true) where
+        pub read-not-ours : ours (decode img) (key job point) ≡ false → read-call img job point out ≡ leaves OutOfRange img out
+        unfolding afterwards read refuse_when_else_
+        read-not-ours h = as-is (refused OutOfRange) (goes-on (one-block out) img step size block good ∙ rw h)
+
+        pub read-shown : ours (decode img) (key job point) ≡ true
+            → read-call img job point out ≡ record { verdict = Accepted; image = img; out = encode-reading (record { sender = decode img .own; key = key job point; object = shown (local (decode img) (key job point)) }); count = 0 }
+        unfolding afterwards read refuse_when_else_
+        read-shown h =
+            as-is (accepted (record { image = img; out = encode-reading (record { sender = decode img .own; key = key job point; object = shown (local (decode img) (key job point)) }); count = 0 }))
+            (goes-on (one-block out) img step size block good ∙ rw h)
+
+-- ---- ours
+
+module _ (s : State) (k : Key) where
+  key-test : ours s k ≡ ((leb (k .job) 7 && (leb 1 (k .point .0) && leb (k .point .0) 65535)) && holds (s .table) (s .own) (k .job))
+  unfolding ours is-key is-job is-point
+  key-test = refl
+
+  pub not-a-job : 7 < k .job → false ≡ ours s k
+  not-a-job h = sym (key-test ∙ ap (λ (b : Bool). (b && (leb 1 (k .point .0) && leb (k .point .0) 65535)) && holds (s .table) (s .own) (k .job)) (lt-leb (k .job) 7 h))
+
+  pub not-a-point : k .job ≤ 7 → k .point .0 < 1 → false ≡ ours s k
+  not-a-point j h = sym (key-test ∙ rw (le-leb (k .job) 7 j, lt-leb 1 (k .point .0) h))
+
+  pub by-table : k .job ≤ 7 → 1 ≤ k .point .0 → k .point .0 ≤ 65535 → {r : Bool} → r ≡ holds (s .table) (s .own) (k .job) → r ≡ ours s k
+  by-table j h l e = e ∙ sym (key-test ∙ rw (le-leb (k .job) 7 j, le-leb 1 (k .point .0) h, le-leb (k .point .0) 65535 l))
+
+-- ---- the parts of a good image
+
+module _ (img : List ℕ) (size : length img ≡ image-length) where
+  pub table-part : cut img 8 8 ≡ decode img .table
+  table-part = sym (ap (λ (h : Head). h .table) (head-is img size) ∙ table-is img size)
+
+  pub clock-part : decode-clock (cut img 16 96) ≡ decode img .clock
+  clock-part = sym (ap (λ (h : Head). h .clock) (head-is img size) ∙ clock-is img size)
+
+  pub own-part : decode-head (cut img 0 512) .own ≡ decode img .own
+  own-part = sym (ap (λ (h : Head). h .own) (head-is img size))
+
+module _ (img : List ℕ) (good : goodImage img ≡ true) where
+  pub good-now : Good (decode img)
+  good-now = good-facts (decode img) (good-image img good .state)
+
+  pub own-is-crew : Crew (decode img .own)
+  own-is-crew = good-now .own-crew
+
+-- ---- the reading
+
+-- fetched, filled, its deletions dropped, sealed
+pub reading-is : (s : State) (k : Key) (b1 b2 b3 x : List ℕ)
+    → point-block b1 ≡ record { kind = 7; position = 0; point = record { sender = s .own; key = k; object = look-up k (s .points) } }
+    → point-block b2 ≡ with-object (point-block b1) (fill (s .table) (decode-point form-1 b1 .key .job) (s .clock) (decode-point form-1 b1 .object))
+    → (point-block b3 ≡ with-versions (point-block b2) (keep (λ v. has-value (v .contents)) (decode-point form-1 b2 .object .versions))) × Laid lay-point point-block b3
+    → x ≡ seal (take 508 b3) → x ≡ encode-reading (record { sender = s .own; key = k; object = shown (local s k) })
+unfolding encode-reading shown local fill resealed
+reading-is s k b1 b2 b3 x p1 p2 p3 e = e ∙ p3 .1 ∙ ap lay-point (p3 .0 ∙ ap (λ (w : Written). with-versions w (keep (λ v. has-value (v .contents)) (w .point .object .versions))) (p2 ∙ filled))
+  where
+    filled : with-object (point-block b1) (fill (s .table) (decode-point form-1 b1 .key .job) (s .clock) (decode-point form-1 b1 .object))
+        ≡ record { kind = 7; position = 0; point = record { sender = s .own; key = k; object = fill (s .table) (k .job) (s .clock) (look-up k (s .points)) } }
+    filled = ap (λ (w : Written). with-object w (fill (s .table) (w .point .key .job) (s .clock) (w .point .object))) p1
+
+-- what fetch asks for, of a good image
+module _ (img : List ℕ) (good : goodImage img ≡ true) where
+  pub counted : (n : ℕ) → n ≡ stored-count img → n ≡ length (decode img .points)
+  counted n e = e ∙ sym (ap length (points-are img) ∙ upto-length (stored-count img) (point-at img))
+
+  pub good-ascends : ascends? stored-before (decode img .points) ≡ true
+  good-ascends = good-now img good .points-asc
+
+  pub good-canonical : encode (decode img) ≡ img
+  good-canonical = good-image img good .encoded
+
+-- the same with the parts that were lent
+pub reading-lent : (img : List ℕ) (size : length img ≡ image-length) (k : Key) (o : Controller) (b1 b2 b3 x : List ℕ) → o ≡ decode-head (cut img 0 512) .own
+    → point-block b1 ≡ record { kind = 7; position = 0; point = record { sender = o; key = k; object = look-up k (decode img .points) } }
+    → point-block b2 ≡ with-object (point-block b1) (fill (cut img 8 8) (decode-point form-1 b1 .key .job) (decode-clock (cut img 16 96)) (decode-point form-1 b1 .object))
+    → (point-block b3 ≡ with-versions (point-block b2) (keep (λ v. has-value (v .contents)) (decode-point form-1 b2 .object .versions))) × Laid lay-point point-block b3
+    → x ≡ seal (take 508 b3) → x ≡ encode-reading (record { sender = decode img .own; key = k; object = shown (local (decode img) k) })
+reading-lent img size k o b1 b2 b3 x own p1 p2 p3 e =
+    reading-is (decode img) k b1 b2 b3 x
+    (p1 ∙ ap (λ (n : Controller). record { kind = 7; position = 0; point = record { sender = n; key = k; object = look-up k (decode img .points) } }) (own ∙ own-part img size))
+    (p2 ∙ ap₂ (λ (t : CrewTable) (c : Clock). with-object (point-block b1) (fill t (decode-point form-1 b1 .key .job) c (decode-point form-1 b1 .object))) (table-part img size) (clock-part img size))
+    p3 e
