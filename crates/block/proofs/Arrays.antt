@@ -57,7 +57,7 @@ module _ {A : Type 0} where
   getD-in (x ∷ xs) zero d l = List·Memᴰ·head refl
   getD-in (x ∷ xs) (suc i) d l = List·Memᴰ·tail (getD-in xs i d (le-of-suc-le-suc l))
 
-  in-append : (xs ys : List A) {v : A} → List·Memᴰ v (xs ++ ys) → List·Memᴰ v xs ⊎ List·Memᴰ v ys
+  pub in-append : (xs ys : List A) {v : A} → List·Memᴰ v (xs ++ ys) → List·Memᴰ v xs ⊎ List·Memᴰ v ys
   in-append [] ys m = inr m
   in-append (x ∷ xs) ys m = ⊎-elim (λ e. inl (List·Memᴰ·head e)) (λ h. ⊎-elim (λ k. inl (List·Memᴰ·tail k)) inr (in-append xs ys h)) (List·Memᴰ·cases-cons m)
 

@@ -1,0 +1,39 @@
+// Records of an image put anew, from one canonical image to another.
+ghost use mathlib.Core.Path.{_≡_};
+ghost use Prim.Native.Nat.{_≤_, _<_};
+ghost use lib.ListN.{length, getD};
+ghost use Rattle.block.specs.Fields.{put-at};
+ghost use Rattle.meaning.specs.Object.{strip, gone};
+ghost use Rattle.meaning.specs.Settle.{stripped};
+ghost use Rattle.layout.specs.Clocks.{decode-clock};
+ghost use Rattle.layout.specs.Image.{image-length, decode};
+ghost use Rattle.image.specs.Places.{no-point};
+ghost use Rattle.image.specs.Edits.{Canonical, with-points};
+ghost use Rattle.store.specs.Restored.{restored};
+
+// The i-th record is stripped by these rows.
+pub fn strip_record(image: &mut [u8], i: usize, rows: &[u8])
+    requires { ⌜ (length (now image) ≡ image-length) × Canonical (now image) × (i < length (decode (now image) .points)) × (length (now rows) ≡ 96) ⌝ }
+    ensures { λ _. ⌜ (decode (now (image .exit)) ≡ with-points (decode (now (image .entry))) (put-at (decode (now (image .entry)) .points) i (stripped (decode-clock (now (rows .entry))) (getD (decode (now (image .entry)) .points) i no-point))))
+        × Canonical (now (image .exit)) ⌝ }
+{
+    let at = 512 * (3 + i);
+    object::strip_off(&mut image[at..at + 512], rows);
+    block::seal_block(&mut image[at..at + 512]);
+}
+
+// The i-th record is stripped, and goes where nothing needs it any more; whether it went.
+pub fn strip_at(image: &mut [u8], count: usize, i: usize, rows: &[u8]) -> bool
+    requires { ⌜ (length (now image) ≡ image-length) × Canonical (now image) × (count ≡ length (decode (now image) .points)) × (i < count) × (length (now rows) ≡ 96) ⌝ }
+    ensures { λ r. ⌜ (r ≡ gone (strip (decode-clock (now (rows .entry))) (getD (decode (now (image .entry)) .points) i no-point .object)))
+        × (decode (now (image .exit)) ≡ with-points (decode (now (image .entry))) (restored (decode-clock (now (rows .entry))) (decode (now (image .entry)) .points) i))
+        × Canonical (now (image .exit)) ⌝ }
+{
+    strip_record(image, i, rows);
+    let at = 512 * (3 + i);
+    if !record::is_gone(&image[at..at + 512]) {
+        return false;
+    }
+    image::close_place(image, count, i);
+    true
+}
