@@ -2,3 +2,4 @@ pub mod Fresh
 pub mod Starting
 pub mod Ladder
 pub mod Reading
+pub mod StripPass

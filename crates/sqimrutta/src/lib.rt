@@ -12,10 +12,11 @@ ghost use Rattle.numbers.specs.Numbers.{controller, Crew};
 ghost use Rattle.numbers.specs.Words.{if_then_else_};
 ghost use Rattle.refusal.specs.Refusal.{answer-number};
 ghost use Rattle.meaning.specs.State.{local};
-ghost use Rattle.meaning.specs.OwnSteps.{fresh, ours, shown};
+ghost use Rattle.meaning.specs.OwnSteps.{fresh, ours, shown, strip-pass};
+ghost use Rattle.layout.specs.Clocks.{decode-clock};
 ghost use Rattle.layout.specs.Image.{image-length, head-of, encode-head, encode-dots, encode, decode, goodImage};
 ghost use Rattle.layout.specs.Messages.{encode-reading};
-ghost use Rattle.layout.specs.Calls.{start-call, read-call};
+ghost use Rattle.layout.specs.Calls.{start-call, read-call, strip-pass-call};
 
 // A fresh head: the own number and the table, and nothing seen.
 fn write_fresh_head(b: &mut [u8], number: u8, table: &[u8])
@@ -149,4 +150,54 @@ pub extern "C" fn sqimrutta_read(image: &[u8], job: u8, point: u16, out: &mut [u
     ensures { λ r. ⌜ (r ≡ answer-number (read-call (now (image .entry)) job point (now (out .entry)) .verdict)) × (now (out .exit) ≡ read-call (now (image .entry)) job point (now (out .entry)) .out) ⌝ }
 {
     read(image, job, point, out).number()
+}
+
+// ---- strip pass
+
+// What a call with a count answers.
+pub struct Tally {
+    pub verdict: Verdict,
+    pub count: u32,
+}
+
+// "Strip pass: every stored point is stripped." The last is looked at first, so that those still to come stand where they stood. How many
+// records went.
+fn strip_all(image: &mut [u8], rows: &[u8]) -> u32
+    requires { ⌜ (length (now image) ≡ image-length) × (goodImage (now image) ≡ true) × (length (now rows) ≡ 96) × (decode-clock (now rows) ≡ decode (now image) .clock) ⌝ }
+    ensures { λ r. ⌜ (r ≡ strip-pass (decode (now (image .entry))) .count) × (now (image .exit) ≡ encode (strip-pass (decode (now (image .entry))) .state)) ⌝ }
+{
+    let stored = image::stored_count(image);
+    let mut count = stored;
+    let mut i = stored;
+    while 0 < i {
+        i -= 1;
+        if store::strip_at(image, count, i, rows) {
+            count -= 1;
+        }
+    }
+    (stored - count) as u32
+}
+
+pub fn strip_pass(image: &mut [u8]) -> Tally
+    ensures { λ r. ⌜ (r .verdict ≡ strip-pass-call (now (image .entry)) .verdict) × (r .count ≡ strip-pass-call (now (image .entry)) .count) × (now (image .exit) ≡ strip-pass-call (now (image .entry)) .image) ⌝ }
+{
+    if image.len() != 34304 {
+        return Tally {
+            verdict: Verdict::Refused(Refusal::WrongLength),
+            count: 0,
+        };
+    }
+    if !image::good(image) {
+        return Tally {
+            verdict: Verdict::Refused(Refusal::ImageNotGood),
+            count: 0,
+        };
+    }
+    let mut rows: [u8; 96] = [0; 96];
+    block::copy_in(&mut rows, 0, &image[16..112]);
+    let count = strip_all(image, &rows);
+    Tally {
+        verdict: Verdict::Accepted,
+        count: count,
+    }
 }
