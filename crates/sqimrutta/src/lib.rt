@@ -201,3 +201,13 @@ pub fn strip_pass(image: &mut [u8]) -> Tally
         count: count,
     }
 }
+
+#[no_mangle]
+pub extern "C" fn sqimrutta_strip_pass(image: &mut [u8], count: &mut u32) -> u32
+    ensures { λ r. ⌜ (r ≡ answer-number (strip-pass-call (now (image .entry)) .verdict)) × (now (image .exit) ≡ strip-pass-call (now (image .entry)) .image) × (now (count .exit) ≡ strip-pass-call (now (image .entry)) .count) ⌝ }
+{
+    let t = strip_pass(image);
+    *count = t.count;
+    let v = t.verdict;
+    v.number()
+}
