@@ -1,14 +1,13 @@
 -- What is read of a made block: its kind, and the parts of its content. Assumes nothing.
-use Prim.Native.Nat.{ℕ, zero, suc, _+_, _*_, _-_, _/_, _^_, _≤_, _<_}
-use mathlib.Core.Path.{_≡_, refl, ap, ap₂, sym, _∙_, subst}
-use mathlib.Core.Bool.{Bool, true}
-use mathlib.Core.List.{List, [], _∷_, _++_, append-assoc, append-nil}
+use Prim.Native.Nat.{ℕ, zero, suc, _+_, _*_, _-_, _≤_, _<_}
+use mathlib.Core.Path.{_≡_, refl, ap, ap₂, sym, _∙_}
+use mathlib.Core.Bool.{true}
+use mathlib.Core.List.{List, [], _∷_, _++_}
 use native.Mathlib.Omega.{arith}
 use lib.ListN.{length, take, drop, length-append, length-drop}
-use lib.Seq.{take-append-le, drop-append-le, drop-append-add, take-all}
-use Rattle.block.specs.Fields.{le, number, cut, field, pad, upto}
+use Rattle.block.specs.Fields.{le, number, cut, field, pad}
 use Rattle.block.specs.Check.{sums, seal, sealed}
-use Rattle.block.specs.Block.{body, make-block, block-at, blocks}
+use Rattle.block.specs.Block.{body, make-block, block-at}
 use Rattle.block.proofs.Numbers.{le-length, number-le}
 use Rattle.block.proofs.Parts.{cut-past, cut-within, cut-first, pad-length, cut-pad}
 use Rattle.block.proofs.Checked.{seal-length, seal-sealed}

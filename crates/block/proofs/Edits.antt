@@ -1,5 +1,5 @@
 -- Edits of what is laid out: in an array, in an array with zeros behind it, in the content of a block. Assumes nothing.
-use Prim.Native.Nat.{ℕ, zero, suc, _+_, _*_, _-_, _≤_, _<_}
+use Prim.Native.Nat.{ℕ, suc, _+_, _*_, _-_, _≤_, _<_}
 use mathlib.Core.Path.{_≡_, refl, ap, ap₂, sym, _∙_, subst}
 use mathlib.Core.List.{List, [], _∷_, _++_, append-assoc, append-nil, List·Memᴰ·not-nil}
 use native.Mathlib.Nat.{mul-suc, mul-add, mul-one, mul-le-mul-left}

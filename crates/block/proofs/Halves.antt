@@ -1,11 +1,11 @@
 -- A field is two halves, the lower one first: as it is read and as it is written, over the sizes of the halves. Assumes nothing.
 use Prim.Native.Nat.{ℕ, zero, suc, _+_, _*_, _/_, _%_, _^_, _≤_, _<_}
 use mathlib.Core.Path.{_≡_, refl, ap, sym, _∙_}
-use mathlib.Core.List.{List, [], _∷_, _++_, append-assoc}
+use mathlib.Core.List.{List, [], _∷_, _++_}
 use native.Mathlib.Nat.{pow-zero, pow-succ', one-le-pow, mul-assoc, zero-add, suc-add, mod-lt, mod-eq-of-lt, mod-add-div, le-of-suc-le-suc}
 use native.Mathlib.Omega.{arith}
-use lib.ListN.{length, take, drop, getD, set, length-append, length-take}
-use lib.Seq.{take-add, take-at, drop-at, drop-drop}
+use lib.ListN.{length, take, drop, getD, set}
+use lib.Seq.{take-add, drop-drop}
 use Rattle.block.specs.Fields.{le, number, cut, splice, field}
 use Rattle.block.proofs.Numbers.{le-length}
 use Rattle.block.proofs.Parts.{length-cut, splice-append}

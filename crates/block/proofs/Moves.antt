@@ -1,12 +1,12 @@
 -- A part that is moved within a run, eight bytes at a time, from its end or from its beginning. Assumes nothing.
 use Prim.Native.Nat.{ℕ, _+_, _*_, _-_, _≤_, _<_}
 use mathlib.Core.Path.{_≡_, refl, ap, ap₂, sym, _∙_, subst}
-use mathlib.Core.List.{List, _++_}
+use mathlib.Core.List.{List}
 use native.Mathlib.Omega.{arith}
 use lib.ListN.{length, take-append-drop}
 use Rattle.block.specs.Fields.{le, number, cut, splice, field}
 use Rattle.block.proofs.Numbers.{Bytes, le-field}
-use Rattle.block.proofs.Parts.{length-cut, cut-join, splice-length, splice-before, splice-after, splice-append, splice-prepend}
+use Rattle.block.proofs.Parts.{length-cut, cut-join, splice-before, splice-after, splice-append, splice-prepend}
 
 -- the n bytes at q stand at p too, and the run is now x
 abbrev Moved : List ℕ → ℕ → ℕ → ℕ → List ℕ → Type 0

@@ -1,12 +1,12 @@
 -- Parts of a list: laws of `cut` and `splice`, stated once for any place and size. Assumes nothing.
-use Prim.Native.Nat.{ℕ, zero, suc, _+_, _*_, _-_, _≤_, _<_}
-use mathlib.Core.Path.{_≡_, refl, ap, ap₂, sym, _∙_, subst}
+use Prim.Native.Nat.{ℕ, zero, suc, _+_, _-_, _≤_}
+use mathlib.Core.Path.{_≡_, ap, ap₂, sym, _∙_}
 use mathlib.Core.List.{List, [], _∷_, _++_, append-assoc}
 use native.Mathlib.Nat.{add-sub-cancel-left, suc-add, zero-add}
 use native.Mathlib.Omega.{arith}
-use lib.ListN.{length, take, drop, replicate, length-take, length-drop, length-append, length-replicate, drop-of-length-le}
+use lib.ListN.{length, take, drop, replicate, length-take, length-drop, length-append, length-replicate}
 use lib.Seq.{take-append-le, drop-append-le, take-take, take-at, drop-at, drop-drop, take-nil, take-all, take-add, take-append-add, drop-append-add}
-use Rattle.block.specs.Fields.{cut, splice, pad, upto}
+use Rattle.block.specs.Fields.{cut, splice, pad}
 
 module _ {A : Type 0} where
   -- a part is the end of a beginning

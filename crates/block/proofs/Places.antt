@@ -1,11 +1,11 @@
 -- What stands at a place of a list of which one was put anew, put in or taken out. Assumes nothing.
-use Prim.Native.Nat.{ℕ, suc, _+_, _-_, _≤_, _<_}
-use mathlib.Core.Path.{_≡_, ap, sym, _∙_}
-use mathlib.Core.List.{List, [], _∷_, _++_}
+use Prim.Native.Nat.{ℕ, _+_, _-_, _≤_, _<_}
+use mathlib.Core.Path.{_≡_, ap, _∙_}
+use mathlib.Core.List.{List, _∷_, _++_}
 use native.Mathlib.Omega.{arith}
 use lib.ListN.{length, take, drop, getD, length-take, List·getD-append}
 use lib.Seq.{getD-at, getD-append-add, getD-take, getD-drop}
-use Rattle.block.specs.Fields.{splice, put-at, insert-at, remove-at}
+use Rattle.block.specs.Fields.{splice}
 
 module _ {A : Type 0} (xs : List A) (i : ℕ) (d : A) where
   module _ (h : i ≤ length xs) (k : ℕ) (ys : List A) where

@@ -1,6 +1,6 @@
 -- A block that is edited before its check is made anew: what stands before the check. Assumes nothing.
-use Prim.Native.Nat.{ℕ, _+_, _-_, _≤_, _<_}
-use mathlib.Core.Path.{_≡_, refl, ap, ap₂, sym, _∙_, subst}
+use Prim.Native.Nat.{ℕ, _+_, _-_, _≤_}
+use mathlib.Core.Path.{_≡_, ap, sym, _∙_}
 use mathlib.Core.List.{List, _++_}
 use native.Mathlib.Omega.{arith}
 use lib.ListN.{length, take, drop, length-take}
@@ -8,7 +8,7 @@ use lib.Seq.{take-at, take-take}
 use Rattle.block.specs.Fields.{le, number, cut, splice, field}
 use Rattle.block.specs.Check.{sums, seal}
 use Rattle.block.specs.Block.{resealed, Laid}
-use Rattle.block.proofs.Parts.{take-drop, cut-within, splice-length, splice-within}
+use Rattle.block.proofs.Parts.{take-drop, splice-length, splice-within}
 
 -- the block's 508 bytes before its check
 pub record Body (b y : List ℕ) : Type 0 where

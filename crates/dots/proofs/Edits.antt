@@ -1,27 +1,26 @@
 -- A list of dots with one entry more or less in its bytes is the list that says so. Assumes nothing.
-use Prim.Native.Nat.{ℕ, _+_, _*_, _-_, _^_, _≤_, _<_}
+use Prim.Native.Nat.{ℕ, _+_, _*_, _-_, _≤_, _<_}
 use mathlib.Core.Path.{_≡_, refl, ap, ap₂, sym, _∙_, subst}
 use mathlib.Core.List.{List, [], _∷_, _++_, append-assoc, append-nil, List·Memᴰ·not-nil}
 use native.Mathlib.Omega.{arith}
-use lib.ListN.{length, take, drop, length-append, length-take, length-drop}
+use lib.ListN.{length, take, length-append, length-take, length-drop}
 use Rattle.numbers.specs.declared.Dot.{Dot}
 use Rattle.numbers.specs.declared.Key.{Key}
 use Rattle.numbers.specs.Words.{concat-map}
-use Rattle.block.specs.Fields.{le, cut, splice, insert-at, remove-at, field, zeros, pad, upto}
+use Rattle.block.specs.Fields.{le, cut, splice, insert-at, remove-at, field, zeros, pad}
 use Rattle.block.specs.Check.{seal}
 use Rattle.block.specs.Block.{body, make-block, resealed, Laid}
 use Rattle.block.proofs.Numbers.{Bytes, le-length, field-bound}
-use Rattle.block.proofs.Parts.{splice-length, splice-past, splice-middle, splice-append}
+use Rattle.block.proofs.Parts.{splice-middle, splice-append}
 use Rattle.block.proofs.Arrays.{upto-same, all-of-splice, only}
 use Rattle.block.proofs.Content.{body-length, position-of}
 use Rattle.block.proofs.Edits.{pad-past, inside-insert, inside-remove}
 use Rattle.block.proofs.Resealed.{Body, cut-resealed, field-resealed, body-of, body-put, body-move, body-resealed, sealed-body, edited}
 use Rattle.meaning.specs.State.{Listed}
-use Rattle.meaning.specs.Settle.{most-listed}
 use Rattle.layout.specs.Image.{encode-entry, decode-entry, encode-dots, decode-dots}
 use Rattle.layout.proofs.ImageBack.{EntrySized, entry-length, DotsSized, dots-short, dots-length, dots-back, dots-number}
 use Rattle.layout.proofs.Decoded.{dots-decoded}
-use Rattle.dots.specs.DotsBlock.{DotsBlock, lay-dots, dots-block, with-dots}
+use Rattle.dots.specs.DotsBlock.{lay-dots, dots-block, with-dots}
 
 -- what is read of a list does not look at its check
 list-resealed : (b : List ℕ) → length b ≡ 512 → dots-block b ≡ dots-block (resealed b)

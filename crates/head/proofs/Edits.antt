@@ -1,6 +1,6 @@
 -- The head with one row or one mark put anew in its bytes is the head that says so. Assumes nothing.
 use Prim.Native.Nat.{ℕ, _+_, _*_, _-_, _^_, _≤_, _<_}
-use mathlib.Core.Path.{_≡_, refl, ap, ap₂, sym, _∙_, subst}
+use mathlib.Core.Path.{_≡_, refl, ap, sym, _∙_, subst}
 use mathlib.Core.List.{List, [], _∷_, _++_, append-nil}
 use native.Mathlib.Omega.{arith}
 use lib.ListN.{length, getD}
@@ -8,20 +8,18 @@ use Rattle.numbers.specs.declared.Controller.{Controller}
 use Rattle.numbers.specs.Words.{concat-map}
 use Rattle.numbers.specs.Numbers.{controller, Crew}
 use Rattle.numbers.proofs.Tests.{_∈_}
-use Rattle.block.specs.Fields.{le, cut, splice, put-at, field, upto}
-use Rattle.block.specs.Check.{seal}
+use Rattle.block.specs.Fields.{le, splice, put-at, field}
 use Rattle.block.specs.Block.{body, make-block, resealed, Laid}
 use Rattle.block.proofs.Numbers.{Bytes, le-length}
-use Rattle.block.proofs.Parts.{splice-length, splice-past, splice-append, splice-within}
+use Rattle.block.proofs.Parts.{splice-length, splice-past, splice-append}
 use Rattle.block.proofs.Arrays.{getD-in, EachOf, array-length, all-of-splice, only}
 use Rattle.block.proofs.Content.{body-length}
 use Rattle.block.proofs.Edits.{array-put, sub-splice, content-put}
 use Rattle.block.proofs.Resealed.{Body, cut-resealed, field-resealed, body-of, body-put, body-resealed, sealed-body, edited}
 use Rattle.row.specs.declared.Row.{Row}
-use Rattle.meaning.specs.State.{Watermark}
 use Rattle.layout.specs.Clocks.{encode-row, encode-clock, decode-clock}
 use Rattle.layout.specs.Image.{encode-marks, decode-marks, Head, encode-head, decode-head}
-use Rattle.layout.proofs.ImageBack.{RowSized, row-length, ClockSized, clock-length, MarksSized, marks-length, HeadSized, table-length, head-content-length, head-short, head-length, head-back}
+use Rattle.layout.proofs.ImageBack.{RowSized, row-length, clock-length, HeadSized, table-length, head-content-length, head-short, head-length, head-back}
 use Rattle.layout.proofs.Decoded.{head-decoded}
 use Rattle.head.specs.HeadEdits.{put-row, put-mark}
 

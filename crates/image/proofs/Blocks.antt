@@ -1,11 +1,10 @@
 -- An image is what a state encodes to just where each of its blocks is. Assumes nothing.
 use Prim.Native.Nat.{ℕ, zero, suc, _+_, _*_, _-_, _^_, _≤_, _<_}
-use mathlib.Core.Path.{_≡_, refl, ap, ap₂, sym, _∙_, subst}
-use mathlib.Core.Bool.{Bool, true, false}
-use mathlib.Core.List.{List, [], _∷_, _++_, append-assoc, List·Memᴰ·not-nil}
+use mathlib.Core.Path.{_≡_, refl, ap, sym, _∙_, subst}
+use mathlib.Core.List.{List, [], _∷_, _++_, append-assoc}
 use native.Mathlib.Nat.{le-of-suc-le-suc}
 use native.Mathlib.Omega.{arith}
-use lib.ListN.{length, take, drop, getD, length-append, length-replicate, replicate-append-replicate}
+use lib.ListN.{length, take, getD, length-replicate, replicate-append-replicate}
 use lib.Seq.{drop-at, take-at}
 use lib.Dec.{ltb, eqb}
 use borrow.Author.Tests.{ltb-true, ltb-false, eqb-true}
@@ -16,14 +15,14 @@ use Rattle.block.specs.Fields.{cut, splice, zeros, upto}
 use Rattle.block.specs.Block.{block-at}
 use Rattle.block.proofs.Numbers.{Bytes, bytes-cut}
 use Rattle.block.proofs.Arrays.{in-upto}
-use Rattle.block.proofs.Parts.{length-cut, splice-length, splice-same, splice-before, splice-after}
+use Rattle.block.proofs.Parts.{splice-same, splice-before, splice-after}
 use Rattle.block.proofs.Content.{block-first, block-next, block-length, same-blocks}
 use Rattle.meaning.specs.Object.{no-object}
 use Rattle.meaning.specs.State.{Stored, State}
 use Rattle.meaning.specs.Settle.{most-points}
 use Rattle.layout.specs.PointBlock.{form-1, encode-stored, decode-stored}
 use Rattle.layout.specs.Image.{image-length, head-of, encode-head, encode-dots, encode-points, encode, decode}
-use Rattle.layout.proofs.ImageBack.{HeadSized, head-length, DotsSized, dots-length, StoredSized, AllSized, stored-length, points-length, Sized, image-size, block-0, block-1, block-2, block-3, decode-encode}
+use Rattle.layout.proofs.ImageBack.{StoredSized, AllSized, stored-length, points-length, Sized, image-size, block-0, block-1, block-2, block-3, decode-encode}
 use Rattle.layout.proofs.Decoded.{head-decoded, dots-decoded, stored-decoded}
 use Rattle.image.specs.Places.{no-point}
 use Rattle.image.proofs.Counted.{points-are, stored-few, points-few}

@@ -3,27 +3,26 @@ use Prim.Native.Nat.{ℕ, zero, suc, _+_, _*_, _-_, _≤_, _<_}
 use mathlib.Core.Path.{_≡_, refl, ap, sym, _∙_, subst}
 use mathlib.Core.Logic.{_⊎_, inl, inr, ⊎-elim}
 use mathlib.Core.Bool.{Bool, true, false, _&&_}
-use mathlib.Core.List.{List, [], _∷_}
+use mathlib.Core.List.{List, _∷_}
 use native.Mathlib.Omega.{arith}
 use native.Mathlib.Nat.{le-of-suc-le-suc, add-zero}
-use lib.ListN.{length, getD}
+use lib.ListN.{length}
 use lib.Dec.{eqb, ltb}
 use borrow.Author.Tests.{eq-eqb, ne-eqb, lt-ltb, ltb-true, ltb-false}
-use Rattle.numbers.specs.Words.{if_then_else_, all?, map}
-use Rattle.numbers.proofs.Tests.{by-test, and-both, _∈_}
+use Rattle.numbers.specs.Words.{all?, map}
+use Rattle.numbers.proofs.Tests.{by-test, and-both}
 use Rattle.numbers.proofs.Lists.{in-all}
-use Rattle.block.specs.Fields.{cut, field, upto}
+use Rattle.block.specs.Fields.{field, upto}
 use Rattle.block.specs.Block.{block-at}
-use Rattle.block.proofs.Numbers.{Bytes, bytes-cut, field-bound}
-use Rattle.block.proofs.Parts.{length-cut}
-use Rattle.block.proofs.Arrays.{upto-length, in-upto}
+use Rattle.block.proofs.Numbers.{Bytes, bytes-cut}
+use Rattle.block.proofs.Arrays.{upto-length}
 use Rattle.block.proofs.Content.{block-length}
 use Rattle.parts.proofs.Lookup.{field-of-cut}
 use Rattle.meaning.specs.CrewTable.{is-table}
-use Rattle.meaning.specs.State.{Stored, State}
+use Rattle.meaning.specs.State.{Stored}
 use Rattle.meaning.specs.Settle.{most-points}
 use Rattle.layout.specs.PointBlock.{form-1, decode-stored}
-use Rattle.layout.specs.Image.{image-length, decode-head, decode-dots, until-zero, decode, encode, goodImage}
+use Rattle.layout.specs.Image.{image-length, decode-head, until-zero, decode, encode, goodImage}
 use Rattle.layout.proofs.Decoded.{head-decoded, dots-decoded}
 use Rattle.image.specs.Parts.{stored-count, parts-laid-out, parts-good}
 use Rattle.image.proofs.GoodParts.{Shape, good-by-parts}

@@ -2,13 +2,13 @@
 use Prim.Native.Nat.{ℕ, _+_, _*_, _-_, _^_, _≤_, _<_}
 use mathlib.Core.Path.{_≡_, refl, ap, ap₂, sym, _∙_, subst}
 use mathlib.Core.Bool.{true}
-use mathlib.Core.List.{List, [], _∷_, _++_, append-nil, List·Memᴰ·not-nil}
+use mathlib.Core.List.{List, _++_, append-nil, List·Memᴰ·not-nil}
 use native.Mathlib.Omega.{arith}
 use lib.ListN.{length, take, drop, getD, drop-of-length-le}
 use Rattle.numbers.specs.declared.Controller.{Controller}
 use Rattle.numbers.specs.declared.Key.{Key}
 use Rattle.numbers.specs.Words.{ascends?}
-use Rattle.block.specs.Fields.{cut, splice, upto}
+use Rattle.block.specs.Fields.{splice, upto}
 use Rattle.block.specs.Block.{block-at, Laid}
 use Rattle.block.proofs.Numbers.{Bytes}
 use Rattle.block.proofs.Parts.{part-is}
@@ -28,7 +28,7 @@ use Rattle.image.specs.Apart.{point-at}
 use Rattle.image.specs.Places.{no-point, Point-in}
 use Rattle.image.specs.Edits.{Canonical}
 use Rattle.image.proofs.Counted.{points-are}
-use Rattle.image.proofs.Blocks.{Blocks, image-decoded, canonical-blocks, no-context-small}
+use Rattle.image.proofs.Blocks.{image-decoded, canonical-blocks, no-context-small}
 use Rattle.image.proofs.Placing.{look-up-before, look-up-at}
 
 module _ (img : List ℕ) (small : Bytes img) (size : length img ≡ image-length) (canonical : Canonical img) (n : ℕ) (count : n ≡ length (decode img .points)) where

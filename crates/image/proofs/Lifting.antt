@@ -1,33 +1,29 @@
 -- One block of a canonical image put anew: the image says so, and is canonical still. Assumes nothing.
-use Prim.Native.Nat.{ℕ, zero, suc, _+_, _*_, _-_, _^_, _≤_, _<_}
+use Prim.Native.Nat.{ℕ, _+_, _*_, _-_, _^_, _≤_, _<_}
 use mathlib.Core.Path.{_≡_, refl, ap, ap₂, sym, _∙_, subst}
-use mathlib.Core.Bool.{Bool, true, false}
 use mathlib.Core.List.{List, [], _∷_, _++_}
 use native.Mathlib.Omega.{arith}
 use lib.ListN.{length, take, drop, getD}
 use lib.Dec.{ltb, eqb}
 use borrow.Author.Tests.{ltb-true, ltb-false, eqb-true, eqb-false}
 use Rattle.numbers.specs.declared.Controller.{Controller}
-use Rattle.numbers.specs.declared.Dot.{Dot}
-use Rattle.numbers.specs.declared.Key.{Key}
-use Rattle.numbers.specs.Words.{if_then_else_}
 use Rattle.numbers.specs.Numbers.{Crew}
 use Rattle.numbers.proofs.Tests.{by-test}
 use Rattle.block.specs.Fields.{cut, splice, put-at, insert-at, remove-at}
 use Rattle.block.specs.Check.{seal}
 use Rattle.block.specs.Block.{block-at, resealed, Laid}
 use Rattle.block.proofs.Numbers.{Bytes}
-use Rattle.block.proofs.Parts.{splice-length, splice-same, splice-again, part-is, part-back, length-cut}
+use Rattle.block.proofs.Parts.{splice-length, splice-same, splice-again, part-is, part-back}
 use Rattle.block.proofs.Arrays.{all-of-splice, only}
 use Rattle.block.proofs.Places.{place-below, place-here, place-above}
 use Rattle.row.specs.declared.Row.{Row}
 use Rattle.meaning.specs.State.{Stored, Listed, State}
 use Rattle.layout.specs.PointBlock.{form-1, encode-stored}
-use Rattle.layout.specs.Image.{image-length, Head, head-of, encode-head, decode-head, encode-dots, decode-dots, encode, decode}
-use Rattle.layout.proofs.ImageBack.{RowSized, EntrySized, HeadSized, head-length, head-back, DotsSized, dots-length, dots-back, StoredSized, stored-length, Sized}
+use Rattle.layout.specs.Image.{image-length, Head, head-of, encode-head, decode-head, encode-dots, decode-dots, decode}
+use Rattle.layout.proofs.ImageBack.{RowSized, EntrySized, HeadSized, head-length, head-back, DotsSized, dots-length, dots-back, StoredSized, Sized}
 use Rattle.head.specs.HeadEdits.{put-row, put-mark}
 use Rattle.head.proofs.Edits.{put-row-sized, put-mark-sized, head-laid}
-use Rattle.dots.specs.DotsBlock.{DotsBlock, lay-dots, dots-block, with-dots}
+use Rattle.dots.specs.DotsBlock.{lay-dots, dots-block, with-dots}
 use Rattle.dots.proofs.Edits.{insert-sized, remove-sized, list-position, list-laid}
 use Rattle.image.specs.Places.{no-point}
 use Rattle.image.specs.Edits.{Canonical, with-head, with-points, list-of, with-list}

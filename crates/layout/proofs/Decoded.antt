@@ -1,14 +1,11 @@
 -- What is decoded from any bytes is within its sizes, so that its encoding has the right length. Assumes nothing.
-use Prim.Native.Nat.{ℕ, zero, suc, _+_, _*_, _-_, _^_, _≤_, _<_}
-use mathlib.Core.Path.{_≡_, refl, ap, sym, _∙_, subst}
-use mathlib.Core.Bool.{Bool, true, false}
-use mathlib.Core.List.{List, [], _∷_}
+use Prim.Native.Nat.{ℕ, _+_, _*_, _-_, _^_, _≤_, _<_}
+use mathlib.Core.Path.{_≡_, sym, subst}
+use mathlib.Core.List.{List}
 use native.Mathlib.Omega.{arith}
-use native.Mathlib.Nat.{le-trans, mul-le-mul-left}
 use lib.ListN.{length, take, length-take}
 use lib.Dec.{eqb}
 use Rattle.numbers.specs.declared.Counter.{Counter}
-use Rattle.numbers.specs.Words.{if_then_else_}
 use Rattle.numbers.specs.Numbers.{counter}
 use Rattle.numbers.proofs.Tests.{by-test, _∈_}
 use Rattle.numbers.proofs.Orders.{take-in}
@@ -17,13 +14,12 @@ use Rattle.block.proofs.Parts.{length-cut}
 use Rattle.block.proofs.Numbers.{Bytes, bytes-cut, field-bound}
 use Rattle.block.proofs.Arrays.{upto-length, in-upto}
 use Rattle.row.specs.declared.Row.{Row}
-use Rattle.meaning.specs.Object.{Contents, value, deleted, Version}
-use Rattle.meaning.specs.State.{Stored, Listed, listed-before}
-use Rattle.meaning.specs.Message.{Outgoing}
+use Rattle.meaning.specs.Object.{Version}
+use Rattle.meaning.specs.State.{Listed, listed-before}
 use Rattle.meaning.specs.Settle.{most-listed}
-use Rattle.layout.specs.PointBlock.{form-1, slot-size, said-bytes, decode-contents, decode-slot, decode-context, sender-at, decode-point, unsent, decode-stored}
+use Rattle.layout.specs.PointBlock.{form-1, said-bytes, decode-contents, decode-slot, decode-context, decode-point, decode-stored}
 use Rattle.layout.specs.Clocks.{decode-row, decode-clock}
-use Rattle.layout.specs.Image.{Head, decode-marks, decode-head, decode-entry, decode-dots}
+use Rattle.layout.specs.Image.{decode-marks, decode-head, decode-entry, decode-dots}
 use Rattle.layout.proofs.PointBack.{SlotSized, ContextSized, PointSized}
 use Rattle.layout.proofs.ImageBack.{RowSized, ClockSized, MarksSized, EntrySized, DotsSized, HeadSized, StoredSized}
 

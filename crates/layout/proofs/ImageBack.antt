@@ -1,30 +1,30 @@
 -- An image is read back as it was written: `decode (encode s) ≡ s` for every state within its sizes. Assumes nothing.
 use Prim.Native.Nat.{ℕ, zero, suc, _+_, _*_, _-_, _^_, _≤_, _<_}
 use mathlib.Core.Path.{_≡_, refl, ap, ap₂, sym, _∙_, subst}
-use mathlib.Core.Bool.{Bool, true, false, _&&_}
-use mathlib.Core.List.{List, [], _∷_, _++_, append-nil, append-assoc, List·Memᴰ·not-nil}
+use mathlib.Core.Bool.{true, false}
+use mathlib.Core.List.{List, [], _∷_, _++_, append-nil, append-assoc}
 use native.Mathlib.Omega.{arith}
-use native.Mathlib.Nat.{mul-suc, mul-le-mul-left, le-of-suc-le-suc}
-use lib.ListN.{length, take, drop, length-append, length-replicate}
+use native.Mathlib.Nat.{le-of-suc-le-suc}
+use lib.ListN.{length, take, length-append, length-replicate}
 use lib.Dec.{eqb}
 use borrow.Author.Tests.{ne-eqb}
-use Rattle.numbers.specs.Words.{if_then_else_, map, concat-map}
+use Rattle.numbers.specs.Words.{map, concat-map}
 use Rattle.numbers.specs.Numbers.{controller}
 use Rattle.numbers.specs.Dot.{dot}
 use Rattle.numbers.specs.Key.{key}
 use Rattle.numbers.proofs.Tests.{_∈_, here, there}
-use Rattle.block.specs.Fields.{le, number, cut, field, zeros, pad, upto}
+use Rattle.block.specs.Fields.{le, number, cut, field, zeros, upto}
 use Rattle.block.specs.Check.{sealed}
-use Rattle.block.specs.Block.{make-block, block-at}
-use Rattle.block.proofs.Parts.{cut-past, cut-within, cut-first, cut-whole, cut-cut, length-cut}
+use Rattle.block.specs.Block.{block-at}
+use Rattle.block.proofs.Parts.{cut-past, cut-within, cut-first, cut-whole}
 use Rattle.block.proofs.Numbers.{le-length, number-le}
 use Rattle.block.proofs.Arrays.{upto-same, take-upto, EachOf, array-length, array-back}
-use Rattle.block.proofs.Content.{make-block-length, make-block-sealed, cut-content, block-first, block-next}
+use Rattle.block.proofs.Content.{make-block-length, cut-content, block-first, block-next}
 use Rattle.row.specs.declared.Row.{Row}
 use Rattle.meaning.specs.Clock.{Clock}
 use Rattle.meaning.specs.State.{Stored, Listed, Watermark, State}
 use Rattle.meaning.specs.Settle.{most-points, most-listed}
-use Rattle.layout.specs.PointBlock.{form-1, unsent, encode-point, encode-stored, decode-stored}
+use Rattle.layout.specs.PointBlock.{form-1, unsent, encode-stored, decode-stored}
 use Rattle.layout.specs.Clocks.{encode-row, decode-row, encode-clock, decode-clock}
 use Rattle.layout.specs.Image.{image-length, encode-marks, decode-marks, Head, head-of, encode-head, decode-head, encode-entry, decode-entry, encode-dots, decode-dots, encode-points, encode, until-zero, decode}
 use Rattle.layout.proofs.PointBack.{field-is, PointSized, point-block-length, point-block-sealed, point-block-kind, point-back}

@@ -1,33 +1,29 @@
 -- A point block is read back as it was written, over the form. Assumes nothing.
-use Prim.Native.Nat.{ℕ, zero, suc, _+_, _*_, _-_, _^_, _≤_, _<_}
+use Prim.Native.Nat.{ℕ, _+_, _*_, _-_, _^_, _≤_, _<_}
 use mathlib.Core.Path.{_≡_, refl, ap, ap₂, sym, _∙_, subst}
-use mathlib.Core.Bool.{Bool, true, false}
-use mathlib.Core.List.{List, [], _∷_, _++_}
+use mathlib.Core.Bool.{true}
+use mathlib.Core.List.{List, [], _++_}
 use native.Mathlib.Omega.{arith}
-use native.Mathlib.Nat.{mul-suc, mul-le-mul-left, le-trans}
-use lib.ListN.{length, take, drop, replicate, length-append}
+use native.Mathlib.Nat.{mul-suc, mul-le-mul-left}
+use lib.ListN.{length, take, replicate, length-append}
 use lib.Seq.{take-at}
-use lib.Dec.{eqb}
 use borrow.Author.Tests.{ne-eqb}
-use Rattle.numbers.specs.declared.Controller.{Controller}
 use Rattle.numbers.specs.declared.Counter.{Counter}
-use Rattle.numbers.specs.Words.{if_then_else_, concat-map}
+use Rattle.numbers.specs.Words.{concat-map}
 use Rattle.numbers.specs.Numbers.{controller, counter}
 use Rattle.numbers.specs.Dot.{dot}
 use Rattle.numbers.specs.Key.{key}
 use Rattle.numbers.proofs.Tests.{_∈_}
 use Rattle.block.specs.Fields.{le, number, cut, field, pad, upto}
 use Rattle.block.specs.Check.{sealed}
-use Rattle.block.specs.Block.{make-block}
-use Rattle.block.proofs.Parts.{cut-past, cut-within, cut-first, cut-whole, cut-cut, pad-length}
+use Rattle.block.proofs.Parts.{cut-past, cut-within, cut-first, cut-whole, pad-length}
 use Rattle.block.proofs.Numbers.{le-length, number-le}
 use Rattle.block.proofs.Arrays.{upto-same, take-upto, EachOf, array-length, array-back}
 use Rattle.block.proofs.Content.{make-block-length, make-block-sealed, cut-content, kind-of}
 use Rattle.meaning.specs.Context.{Context}
-use Rattle.meaning.specs.Object.{Contents, value, deleted, Version, Object}
-use Rattle.meaning.specs.State.{Stored}
+use Rattle.meaning.specs.Object.{Contents, value, deleted, Version}
 use Rattle.meaning.specs.Message.{Outgoing}
-use Rattle.layout.specs.PointBlock.{Form, slot-size, said-length, said-bytes, encode-slot, decode-contents, decode-slot, encode-context, decode-context, sender-at, encode-point, decode-point, unsent, encode-stored, decode-stored}
+use Rattle.layout.specs.PointBlock.{Form, slot-size, said-length, said-bytes, encode-slot, decode-contents, decode-slot, encode-context, decode-context, sender-at, encode-point, decode-point}
 
 -- ---- a field of a part that is known
 

@@ -1,19 +1,19 @@
 -- A loop over a point's versions, from the last to the first, that takes out those that do not pass a test. Assumes nothing.
-use Prim.Native.Nat.{ℕ, suc, _+_, _*_, _-_, _≤_, _<_}
-use mathlib.Core.Path.{_≡_, refl, ap, ap₂, sym, _∙_, subst}
+use Prim.Native.Nat.{ℕ, suc, _+_, _-_, _≤_, _<_}
+use mathlib.Core.Path.{_≡_, ap, ap₂, sym, _∙_, subst}
 use mathlib.Core.Bool.{Bool, true, false}
 use mathlib.Core.List.{List, [], _∷_, _++_, append-assoc, append-nil}
 use native.Mathlib.Omega.{arith}
-use lib.ListN.{length, take, drop, getD, length-append, length-take, take-append-drop, drop-of-length-le}
-use lib.Seq.{take-all, take-suc, drop-cons, getD-at, getD-take, take-at, drop-at, take-append-le, drop-append-le}
+use lib.ListN.{length, take, drop, getD, length-append, length-take, drop-of-length-le}
+use lib.Seq.{take-all, take-suc, drop-cons, getD-take, take-at, drop-at}
 use Rattle.numbers.specs.Words.{cons-if, keep}
 use Rattle.numbers.proofs.Tests.{_∈_}
-use Rattle.block.specs.Fields.{cut, splice, remove-at, field, upto}
+use Rattle.block.specs.Fields.{remove-at, field}
 use Rattle.block.specs.Block.{Laid}
 use Rattle.block.proofs.Numbers.{Bytes}
 use Rattle.block.proofs.Arrays.{upto-at, getD-in}
 use Rattle.meaning.specs.Object.{Version}
-use Rattle.layout.specs.PointBlock.{form-1, decode-slot, decode-point}
+use Rattle.layout.specs.PointBlock.{form-1, decode-point}
 use Rattle.record.specs.Written.{Written, lay-point, point-block, with-versions}
 use Rattle.record.proofs.Reading.{version-at, versions-are}
 use Rattle.record.proofs.Edits.{count-is, few-versions}

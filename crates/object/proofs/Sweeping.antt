@@ -1,7 +1,7 @@
 -- A loop over a context that puts each entry anew, one after the other. Assumes nothing.
-use Prim.Native.Nat.{ℕ, _+_, _*_, _-_, _≤_, _<_}
+use Prim.Native.Nat.{ℕ, _+_, _-_, _≤_, _<_}
 use mathlib.Core.Path.{_≡_, refl, ap, sym, _∙_, subst}
-use mathlib.Core.Bool.{Bool, true, false}
+use mathlib.Core.Bool.{Bool}
 use mathlib.Core.List.{List, [], _∷_}
 use native.Mathlib.Omega.{arith}
 use lib.ListN.{length, getD}
@@ -14,13 +14,12 @@ use Rattle.numbers.specs.Words.{if_then_else_}
 use Rattle.numbers.specs.Numbers.{controller, counter, each}
 use Rattle.numbers.proofs.Tests.{by-test}
 use Rattle.numbers.proofs.Controllers.{each-entry}
-use Rattle.block.specs.Fields.{splice, put-at, upto}
+use Rattle.block.specs.Fields.{put-at, upto}
 use Rattle.block.specs.Block.{Laid}
 use Rattle.block.proofs.Parts.{splice-length}
 use Rattle.block.proofs.Arrays.{upto-length, upto-at}
 use Rattle.block.proofs.Places.{place-below, place-here, place-above}
 use Rattle.meaning.specs.Context.{Context, entry}
-use Rattle.meaning.specs.Object.{Object}
 use Rattle.record.specs.Written.{Written, lay-point, point-block, with-object, put-entry}
 
 -- one of those below n put anew

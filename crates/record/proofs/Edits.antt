@@ -3,13 +3,13 @@ use Prim.Native.Nat.{ℕ, _+_, _*_, _-_, _^_, _≤_, _<_}
 use mathlib.Core.Path.{_≡_, refl, ap, ap₂, sym, _∙_, subst}
 use mathlib.Core.List.{List, [], _∷_, _++_, append-assoc, List·Memᴰ·not-nil}
 use native.Mathlib.Omega.{arith}
-use lib.ListN.{length, take, drop, length-append, length-take, length-drop}
+use lib.ListN.{length, take, length-append, length-take, length-drop}
 use Rattle.numbers.specs.declared.Controller.{Controller}
 use Rattle.numbers.specs.declared.Counter.{Counter}
 use Rattle.numbers.specs.Words.{concat-map}
 use Rattle.numbers.specs.Numbers.{controller, Crew}
 use Rattle.numbers.specs.Key.{key}
-use Rattle.block.specs.Fields.{le, cut, splice, put-at, insert-at, remove-at, field, zeros, pad, upto}
+use Rattle.block.specs.Fields.{le, cut, splice, put-at, insert-at, remove-at, field, zeros, pad}
 use Rattle.block.specs.Check.{seal}
 use Rattle.block.specs.Block.{body, make-block, resealed, Laid}
 use Rattle.block.proofs.Numbers.{Bytes, le-length, field-bound}
@@ -19,11 +19,11 @@ use Rattle.block.proofs.Content.{body-length, kind-of, position-of}
 use Rattle.block.proofs.Edits.{pad-past, array-put, inside-insert, inside-remove}
 use Rattle.block.proofs.Resealed.{Body, cut-resealed, field-resealed, body-of, body-put, body-move, body-resealed, sealed-body, edited}
 use Rattle.meaning.specs.Context.{Context}
-use Rattle.meaning.specs.Object.{Version, Object}
+use Rattle.meaning.specs.Object.{Version}
 use Rattle.meaning.specs.State.{Stored}
 use Rattle.meaning.specs.Message.{Outgoing}
 use Rattle.layout.specs.PointBlock.{form-1, encode-slot, decode-slot, encode-context, decode-context, encode-point, decode-point, unsent, encode-stored, decode-stored}
-use Rattle.layout.proofs.PointBack.{SlotSized, slot-length, ContextSized, context-length, PointSized, slots-length, slots-fit, short, point-back, point-number}
+use Rattle.layout.proofs.PointBack.{SlotSized, slot-length, context-length, PointSized, slots-fit, short, point-back, point-number}
 use Rattle.layout.proofs.ImageBack.{StoredSized}
 use Rattle.layout.proofs.Decoded.{slot-decoded, point-decoded}
 use Rattle.record.specs.Written.{Written, lay-point, point-block, with-versions, put-entry, relabelled}

@@ -1,9 +1,8 @@
 -- A slot and an empty point block, by the stores that make them. Assumes nothing.
-use Prim.Native.Nat.{ℕ, _+_, _*_, _-_, _≤_, _<_}
-use mathlib.Core.Path.{_≡_, refl, ap, ap₂, sym, _∙_}
-use mathlib.Core.List.{List, [], _∷_, _++_, append-nil}
-use native.Mathlib.Omega.{arith}
-use lib.ListN.{length, take, drop, drop-of-length-le, length-replicate}
+use Prim.Native.Nat.{ℕ, _+_, _-_, _≤_}
+use mathlib.Core.Path.{_≡_, ap, _∙_}
+use mathlib.Core.List.{List, _++_}
+use lib.ListN.{length, take}
 use Rattle.numbers.specs.declared.Controller.{Controller}
 use Rattle.numbers.specs.declared.Dot.{Dot}
 use Rattle.numbers.specs.declared.Key.{Key}
@@ -13,7 +12,7 @@ use Rattle.block.specs.Block.{make-block}
 use Rattle.block.proofs.Numbers.{le-length}
 use Rattle.block.proofs.Parts.{splice-past}
 use Rattle.block.proofs.Edits.{zeros-drop, cleared}
-use Rattle.meaning.specs.Object.{Contents, value, deleted, Version, no-object}
+use Rattle.meaning.specs.Object.{value, deleted, no-object}
 use Rattle.layout.specs.PointBlock.{form-1, encode-slot, encode-context, encode-point}
 
 -- the first eight bytes of a slot, and zeros

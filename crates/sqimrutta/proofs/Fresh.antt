@@ -1,13 +1,12 @@
 -- What start writes, block by block. Assumes nothing.
-use Prim.Native.Nat.{ℕ, zero, suc, _+_, _*_, _-_, _/_, _%_, _≤_, _<_}
-use mathlib.Core.Path.{_≡_, refl, ap, ap₂, sym, _∙_, subst}
-use mathlib.Core.Bool.{Bool, true, false, _&&_, not}
+use Prim.Native.Nat.{ℕ, _+_, _-_, _%_}
+use mathlib.Core.Path.{_≡_, refl, ap, ap₂, sym, _∙_}
 use mathlib.Core.List.{List, [], _∷_, _++_, append-nil, append-assoc, List·Memᴰ, List·Memᴰ·head, List·Memᴰ·tail}
 use native.Mathlib.Omega.{arith}
 use lib.ListN.{length, take, drop, length-append, length-drop}
 use lib.Seq.{drop-drop, take-at, drop-at}
 use Rattle.numbers.specs.Words.{concat-map}
-use Rattle.numbers.specs.Numbers.{controller, each}
+use Rattle.numbers.specs.Numbers.{controller}
 use Rattle.block.specs.Fields.{le, splice, zeros, pad}
 use Rattle.block.specs.Check.{seal}
 use Rattle.block.specs.Block.{make-block}
@@ -16,7 +15,7 @@ use Rattle.block.proofs.Numbers.{Bytes}
 use Rattle.block.proofs.Edits.{cleared}
 use Rattle.meaning.specs.OwnSteps.{fresh}
 use Rattle.layout.specs.Clocks.{encode-row, encode-clock}
-use Rattle.layout.specs.Image.{image-length, encode-marks, head-of, encode-head, encode-entry, encode-dots, encode-points, encode}
+use Rattle.layout.specs.Image.{image-length, encode-marks, head-of, encode-head, encode-dots, encode-points, encode}
 
 -- ---- a list of no dots, by the stores that make it
 

@@ -1,16 +1,15 @@
 -- The definition of read, case by case, and the reading as it is written. Assumes nothing.
 use Prim.Native.Nat.{ℕ, _≤_, _<_}
-use mathlib.Core.Path.{_≡_, refl, ap, ap₂, sym, _∙_, subst}
-use mathlib.Core.Bool.{Bool, true, false, _&&_, not}
-use mathlib.Core.List.{List, []}
-use native.Mathlib.Omega.{arith}
+use mathlib.Core.Path.{_≡_, refl, ap, ap₂, sym, _∙_}
+use mathlib.Core.Bool.{Bool, true, false, _&&_}
+use mathlib.Core.List.{List}
 use lib.ListN.{length, take}
-use lib.Dec.{leb, eqb}
+use lib.Dec.{leb}
 use borrow.Author.Tests.{eq-eqb, ne-eqb, le-leb, lt-leb}
 use Rattle.numbers.specs.declared.Controller.{Controller}
 use Rattle.numbers.specs.declared.Key.{Key}
 use Rattle.numbers.specs.Words.{keep, ascends?}
-use Rattle.numbers.specs.Numbers.{controller, is-job, is-point, Crew}
+use Rattle.numbers.specs.Numbers.{is-job, is-point, Crew}
 use Rattle.numbers.specs.Key.{key, is-key}
 use Rattle.refusal.specs.declared.Verdict.the-variants.{Accepted}
 use Rattle.refusal.specs.declared.Refusal.the-variants.{WrongLength, ImageNotGood, OutOfRange}
@@ -18,26 +17,25 @@ use Rattle.refusal.specs.Refusal.{Answer, refused, accepted, refuse_when_else_,
 use Rattle.block.specs.Fields.{cut}
 use Rattle.block.proofs.Arrays.{upto-length}
 use Rattle.block.specs.Check.{seal}
-use Rattle.block.specs.Block.{block-at, resealed, Laid}
+use Rattle.block.specs.Block.{resealed, Laid}
 use Rattle.meaning.specs.CrewTable.{CrewTable, holds}
 use Rattle.meaning.specs.Clock.{Clock}
-use Rattle.meaning.specs.Object.{has-value, Version, Object, fill}
+use Rattle.meaning.specs.Object.{has-value, fill}
 use Rattle.meaning.specs.State.{State, stored-before, look-up, local}
-use Rattle.meaning.specs.Message.{Outgoing}
 use Rattle.meaning.specs.OwnSteps.{ours, shown, read}
 use Rattle.laws.proofs.Goodness.{Good, good-facts}
 use Rattle.layout.specs.Clocks.{decode-clock}
-use Rattle.layout.specs.PointBlock.{form-1, encode-point, decode-point}
+use Rattle.layout.specs.PointBlock.{form-1, decode-point}
 use Rattle.layout.specs.Image.{image-length, Head, decode-head, encode, decode, goodImage}
 use Rattle.layout.specs.Messages.{encode-reading}
-use Rattle.layout.specs.Calls.{Left, After, afterwards, one-block, on-image, read-call}
+use Rattle.layout.specs.Calls.{Left, afterwards, one-block, on-image, read-call}
 use Rattle.layout.proofs.CallsGood.{good-image}
 use Rattle.record.specs.Written.{Written, lay-point, point-block, with-object, with-versions}
 use Rattle.image.specs.Parts.{stored-count}
 use Rattle.image.specs.Apart.{point-at}
 use Rattle.image.proofs.Counted.{points-are}
 use Rattle.image.proofs.Whole.{table-is, clock-is, head-is}
-use Rattle.sqimrutta.proofs.Ladder.{leaves, refused-leaves, wrong-image, wrong-other, not-good, goes-on}
+use Rattle.sqimrutta.proofs.Ladder.{leaves, wrong-image, wrong-other, not-good, goes-on}
 
 -- ---- case by case
 

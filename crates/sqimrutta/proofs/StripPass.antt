@@ -1,6 +1,6 @@
 -- The strip pass, record by record, and its definition case by case. Assumes nothing.
 use Prim.Native.Nat.{ℕ, suc, _+_, _-_, _≤_, _<_}
-use mathlib.Core.Path.{_≡_, refl, ap, ap₂, sym, _∙_, subst}
+use mathlib.Core.Path.{_≡_, refl, ap, ap₂, sym, _∙_}
 use mathlib.Core.Bool.{Bool, true, false}
 use mathlib.Core.List.{List, [], _∷_, _++_, append-nil}
 use native.Mathlib.Omega.{arith}
@@ -18,11 +18,11 @@ use Rattle.meaning.specs.OwnSteps.{strip-pass}
 use Rattle.meaning.specs.Settle.{stripped}
 use Rattle.layout.specs.Clocks.{decode-clock}
 use Rattle.layout.specs.Image.{image-length, encode, decode, goodImage}
-use Rattle.layout.specs.Calls.{Left, After, afterwards, on-image, strip-pass-call}
+use Rattle.layout.specs.Calls.{Left, afterwards, on-image, strip-pass-call}
 use Rattle.image.specs.Places.{no-point}
 use Rattle.image.specs.Edits.{Canonical, with-points}
 use Rattle.store.specs.Restored.{restored}
-use Rattle.store.proofs.Pass.{kept, pass-is, from, from-none, from-at, from-more}
+use Rattle.store.proofs.Pass.{kept, pass-is, from, from-none, from-more}
 use Rattle.sqimrutta.proofs.Reading.{clock-part}
 use Rattle.sqimrutta.proofs.Ladder.{leaves, wrong-image, not-good, goes-on}
 

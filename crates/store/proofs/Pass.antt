@@ -1,19 +1,19 @@
 -- Every stored point stripped: what the pass leaves, said record by record. Assumes nothing.
-use Prim.Native.Nat.{ℕ, suc, _+_, _-_, _≤_, _<_}
+use Prim.Native.Nat.{ℕ, suc, _+_, _-_, _<_}
 use mathlib.Core.Path.{_≡_, refl, ap, ap₂, sym, _∙_, subst}
 use mathlib.Core.Logic.{⊎-elim}
 use mathlib.Core.Bool.{Bool, true, false, not}
 use mathlib.Core.List.{List, [], _∷_, _++_, append-assoc, append-nil, List·Memᴰ·not-nil, List·Memᴰ·cases-cons}
 use native.Mathlib.Omega.{arith}
-use lib.ListN.{length, take, drop, getD, length-take, length-append, drop-of-length-le}
-use lib.Seq.{take-all, take-suc, drop-cons, take-at, drop-at, getD-take}
+use lib.ListN.{length, take, drop, getD, length-take, drop-of-length-le}
+use lib.Seq.{take-all, take-suc, drop-cons, take-at, drop-at}
 use Rattle.numbers.specs.declared.Key.{Key}
 use Rattle.numbers.specs.Words.{if_then_else_, cons-if, keep, all?, ascends?, place, map, fold}
 use Rattle.numbers.specs.Key.{same-key, key-before}
 use Rattle.numbers.proofs.Tests.{by-test, never, and-left, and-right, _∈_, here, there}
 use Rattle.numbers.proofs.Lists.{all-in}
 use Rattle.numbers.proofs.Dots.{key-order, same-keys, key-itself}
-use Rattle.block.specs.Fields.{splice, put-at, remove-at}
+use Rattle.block.specs.Fields.{put-at, remove-at}
 use Rattle.block.proofs.Arrays.{in-append}
 use Rattle.meaning.specs.Clock.{Clock}
 use Rattle.meaning.specs.Object.{strip, gone}

@@ -13,7 +13,7 @@ use Rattle.numbers.specs.Words.{if_then_else_}
 use Rattle.numbers.specs.Numbers.{counter, each, controllers, Crew}
 use Rattle.numbers.proofs.Tests.{by-test, _∈_}
 use Rattle.numbers.proofs.Lists.{in-map}
-use Rattle.numbers.proofs.Controllers.{in-crew, each-entry}
+use Rattle.numbers.proofs.Controllers.{in-crew}
 use Rattle.block.specs.Fields.{put-at, remove-at, field}
 use Rattle.block.specs.Check.{seal}
 use Rattle.block.specs.Block.{block-at, Laid}
@@ -23,14 +23,12 @@ use Rattle.block.proofs.Arrays.{getD-in}
 use Rattle.block.proofs.Places.{place-here}
 use Rattle.meaning.specs.Clock.{Clock, row}
 use Rattle.meaning.specs.Context.{Context, entry, strip-context}
-use Rattle.meaning.specs.Object.{Object, strip, gone}
+use Rattle.meaning.specs.Object.{strip, gone}
 use Rattle.meaning.specs.State.{Stored, State}
 use Rattle.meaning.specs.Settle.{stripped}
 use Rattle.layout.specs.PointBlock.{form-1, unsent, encode-stored, decode-point}
 use Rattle.layout.specs.Image.{image-length, decode}
-use Rattle.layout.proofs.PointBack.{ContextSized}
-use Rattle.layout.proofs.Sizes.{one-of-eight}
-use Rattle.layout.proofs.ImageBack.{StoredSized, stored-length, Sized}
+use Rattle.layout.proofs.ImageBack.{StoredSized, stored-length}
 use Rattle.record.specs.Written.{Written, lay-point, point-block, with-object}
 use Rattle.record.proofs.Edits.{stored-says, count-is, few-versions}
 use Rattle.image.specs.Places.{no-point}

@@ -1,10 +1,9 @@
 -- `block::move_down` meets its contract. The invariant: what is moved so far (Moves). Assumes nothing.
-use Prim.Native.Nat.{_+_, _*_, _-_}
+use Prim.Native.Nat.{_-_}
 use denote.Ref.{now}
 use native.Mathlib.Omega.{arith}
 use Rattle.block.proofs.Numbers.{bytes-of}
 use Rattle.block.proofs.Moves.{MovedTo, from-start, next-above, all-to}
-use borrow.Author.Needs.{needs}
 use Rattle.block.proofs.move_down.Statement.{statement}
 use Rattle.block.proofs.move_down.Tie as tie
 use Rattle.block.proofs.move_down.Reads as reads

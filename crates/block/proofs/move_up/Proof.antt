@@ -1,10 +1,9 @@
 -- `block::move_up` meets its contract. The invariant: what is moved so far (Moves). Assumes nothing.
-use Prim.Native.Nat.{_+_, _*_, _-_}
+use Prim.Native.Nat.{_-_}
 use denote.Ref.{now}
 use native.Mathlib.Omega.{arith}
 use Rattle.block.proofs.Numbers.{bytes-of}
 use Rattle.block.proofs.Moves.{MovedFrom, from-end, next-below, all-from}
-use borrow.Author.Needs.{needs}
 use Rattle.block.proofs.move_up.Statement.{statement}
 use Rattle.block.proofs.move_up.Tie as tie
 use Rattle.block.proofs.move_up.Reads as reads

@@ -1,5 +1,5 @@
 -- `head::set_mark` meets its contract. The bytes of a mark put anew are the head with that mark (Edits). Assumes nothing.
-use Prim.Native.Nat.{_+_, _*_, _-_}
+use Prim.Native.Nat.{_-_}
 use denote.Ref.{now}
 use native.Mathlib.Omega.{arith}
 use Rattle.block.proofs.Numbers.{bytes-of}

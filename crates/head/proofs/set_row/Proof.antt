@@ -1,7 +1,6 @@
 -- `head::set_row` meets its contract. The bytes of a row put anew are the head with that row (Edits). Assumes nothing.
-use Prim.Native.Nat.{_+_, _*_, _-_}
+use Prim.Native.Nat.{_-_}
 use denote.Ref.{now}
-use native.Mathlib.Omega.{arith}
 use Rattle.block.proofs.Numbers.{bytes-of}
 use Rattle.head.proofs.Edits.{row-is-put}
 use borrow.Author.Needs.{needs}

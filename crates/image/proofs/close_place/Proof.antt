@@ -1,5 +1,5 @@
 -- `image::close_place` meets its contract. The invariant: which blocks stand one further down (Closing). Assumes nothing.
-use Prim.Native.Nat.{_+_, _*_, _-_}
+use Prim.Native.Nat.{_-_}
 use denote.Ref.{now}
 use native.Mathlib.Omega.{arith}
 use Rattle.block.proofs.Numbers.{bytes-of}
@@ -7,7 +7,6 @@ use Rattle.layout.specs.Image.{decode}
 use Rattle.image.proofs.Blocks.{image-decoded, canonical-blocks}
 use mathlib.Core.Path.{refl}
 use Rattle.image.proofs.Closing.{Closing, closing-none, closing-size, closing-laid, closing-more, closed}
-use borrow.Author.Needs.{needs}
 use Rattle.image.proofs.close_place.Statement.{statement}
 use Rattle.image.proofs.close_place.Tie as tie
 use Rattle.image.proofs.close_place.Reads as reads

@@ -1,5 +1,5 @@
 -- `image::fetch` meets its contract. The record that was found, or the empty object (Fetching). Assumes nothing.
-use Prim.Native.Nat.{_+_, _*_, _-_}
+use Prim.Native.Nat.{_-_}
 use denote.Ref.{now}
 use native.Mathlib.Omega.{arith}
 use Rattle.block.proofs.Numbers.{bytes-of}

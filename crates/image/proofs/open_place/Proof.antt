@@ -1,5 +1,5 @@
 -- `image::open_place` meets its contract. The invariant: which blocks stand one further up (Opening). Assumes nothing.
-use Prim.Native.Nat.{_+_, _*_, _-_}
+use Prim.Native.Nat.{_-_}
 use denote.Ref.{now}
 use native.Mathlib.Omega.{arith}
 use Rattle.block.proofs.Numbers.{bytes-of}

@@ -1,5 +1,5 @@
 -- `image::remove_dot` meets its contract. One part edited and sealed is that block put anew (Lifting). Assumes nothing.
-use Prim.Native.Nat.{_+_, _*_, _-_}
+use Prim.Native.Nat.{_-_}
 use denote.Ref.{now}
 use mathlib.Core.Path.{refl}
 use native.Mathlib.Omega.{arith}

@@ -1,5 +1,4 @@
 -- `object::filled_entry` meets its contract. Each answer is the higher one, or the entry of no holder (Entries). Assumes nothing.
-use native.Mathlib.Omega.{arith}
 use Rattle.object.proofs.Entries.{filled-up, filled-already}
 use borrow.Author.Needs.{needs}
 use Rattle.object.proofs.filled_entry.Statement.{statement}

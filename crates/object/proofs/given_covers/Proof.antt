@@ -1,6 +1,5 @@
 -- `object::given_covers` meets its contract (Entries). Assumes nothing.
 use denote.Ref.{now}
-use native.Mathlib.Omega.{arith}
 use Rattle.object.proofs.Entries.{given-covers-is}
 use borrow.Author.Needs.{needs}
 use Rattle.object.proofs.given_covers.Statement.{statement}

@@ -1,20 +1,17 @@
 -- `object::strip_off` meets its contract. The invariant: the entries of the first controllers are stripped (Sweeping). Assumes nothing.
-use Prim.Native.Nat.{ℕ, _+_, _*_, _-_, max}
+use Prim.Native.Nat.{_-_}
 use denote.Ref.{now}
-use mathlib.Core.Path.{refl, ap, ap₂, sym, _∙_}
-use mathlib.Core.Bool.{Bool, true, false}
+use mathlib.Core.Path.{refl, ap₂, _∙_}
 use native.Mathlib.Omega.{arith}
-use lib.Dec.{leb, eqb}
-use Rattle.numbers.specs.declared.Controller.{Controller}
+use lib.Dec.{leb}
 use Rattle.numbers.specs.declared.Counter.{Counter}
 use Rattle.numbers.specs.Words.{if_then_else_}
-use Rattle.numbers.specs.Numbers.{controller, counter}
+use Rattle.numbers.specs.Numbers.{counter}
 use Rattle.block.proofs.Numbers.{bytes-of}
 use Rattle.row.specs.declared.Row.{Row}
-use Rattle.meaning.specs.CrewTable.{holds}
 use Rattle.meaning.specs.Clock.{row}
-use Rattle.meaning.specs.Context.{entry, fill-context, strip-context}
-use Rattle.meaning.specs.Object.{fill, strip}
+use Rattle.meaning.specs.Context.{entry, strip-context}
+use Rattle.meaning.specs.Object.{strip}
 use Rattle.layout.specs.PointBlock.{form-1, decode-point}
 use Rattle.layout.specs.Clocks.{decode-clock}
 use Rattle.layout.proofs.Decoded.{point-decoded}

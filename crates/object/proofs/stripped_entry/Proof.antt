@@ -1,7 +1,5 @@
 -- `object::stripped_entry` meets its contract (Entries). Assumes nothing.
-use native.Mathlib.Omega.{arith}
 use Rattle.object.proofs.Entries.{stripped-now, stripped-not}
-use borrow.Author.Needs.{needs}
 use Rattle.object.proofs.stripped_entry.Statement.{statement}
 use Rattle.object.proofs.stripped_entry.Tie as tie
 use Rattle.object.proofs.stripped_entry.Reads as reads

@@ -1,7 +1,6 @@
 -- `record::make_deleted_slot` meets its contract. Its stores, one by one (Stores). Assumes nothing.
-use Prim.Native.Nat.{_+_, _*_, _-_}
+use Prim.Native.Nat.{_-_}
 use denote.Ref.{now}
-use native.Mathlib.Omega.{arith}
 use mathlib.Core.Path.{refl}
 use Rattle.record.proofs.Stores.{deleted-made}
 use borrow.Author.Needs.{needs}

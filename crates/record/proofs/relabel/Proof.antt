@@ -1,5 +1,5 @@
 -- `record::relabel` meets its contract. The bytes are those of the block under its new label (Edits). Assumes nothing.
-use Prim.Native.Nat.{_+_, _*_, _-_}
+use Prim.Native.Nat.{_-_}
 use denote.Ref.{now}
 use native.Mathlib.Omega.{arith}
 use Rattle.block.proofs.Numbers.{bytes-of}

@@ -1,7 +1,6 @@
 -- `record::set_entry` meets its contract. The bytes are those of the block with that entry (Edits). Assumes nothing.
-use Prim.Native.Nat.{_+_, _*_, _-_}
+use Prim.Native.Nat.{_-_}
 use denote.Ref.{now}
-use native.Mathlib.Omega.{arith}
 use Rattle.block.proofs.Numbers.{bytes-of}
 use Rattle.record.proofs.Edits.{entry-is-put}
 use borrow.Author.Needs.{needs}

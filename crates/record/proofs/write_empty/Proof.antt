@@ -1,7 +1,6 @@
 -- `record::write_empty` meets its contract. Its stores, one by one (Stores). Assumes nothing.
-use Prim.Native.Nat.{_+_, _*_, _-_}
+use Prim.Native.Nat.{_-_}
 use denote.Ref.{now}
-use native.Mathlib.Omega.{arith}
 use Rattle.record.proofs.Stores.{empty-made}
 use borrow.Author.Needs.{needs}
 use Rattle.record.proofs.write_empty.Statement.{statement}

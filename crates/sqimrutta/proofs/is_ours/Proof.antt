@@ -1,7 +1,7 @@
 -- `sqimrutta::is_ours` meets its contract. The tests of row 5, one by one (Reading). Assumes nothing.
-use Prim.Native.Nat.{_+_, _*_, _-_}
+use Prim.Native.Nat.{_-_}
 use denote.Ref.{now}
-use mathlib.Core.Path.{ap, sym, _∙_}
+use mathlib.Core.Path.{sym, _∙_}
 use native.Mathlib.Omega.{arith}
 use mathlib.Core.Path.{ap₂, subst}
 use Rattle.numbers.specs.declared.Controller.{Controller}

@@ -1,5 +1,5 @@
 -- `sqimrutta::read` meets its contract. Each answer is a row of the table, in its order (Reading). Assumes nothing.
-use Prim.Native.Nat.{_+_, _*_, _-_}
+use Prim.Native.Nat.{_-_}
 use denote.Ref.{now}
 use mathlib.Core.Path.{ap, sym, _∙_}
 use native.Mathlib.Omega.{arith}

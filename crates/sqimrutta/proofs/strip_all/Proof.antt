@@ -2,7 +2,6 @@
 use Prim.Native.Nat.{_-_}
 use denote.Ref.{now}
 use mathlib.Core.Path.{refl, ap, sym, _∙_}
-use mathlib.Core.Bool.{Bool}
 use native.Mathlib.Omega.{arith}
 use lib.ListN.{getD}
 use Rattle.meaning.specs.Clock.{Clock}
@@ -13,7 +12,6 @@ use Rattle.image.specs.Edits.{with-points}
 use Rattle.store.specs.Restored.{restored}
 use Rattle.sqimrutta.proofs.Reading.{counted, good-ascends, good-canonical, good-now}
 use Rattle.sqimrutta.proofs.StripPass.{Stripping, stripping-none, stripping-inside, stripping-more, went-one, went-none, stripped-image, stripped-count}
-use borrow.Author.Needs.{needs}
 use Rattle.sqimrutta.proofs.strip_all.Statement.{statement}
 use Rattle.sqimrutta.proofs.strip_all.Tie as tie
 use Rattle.sqimrutta.proofs.strip_all.Reads as reads

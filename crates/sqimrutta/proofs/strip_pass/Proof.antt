@@ -1,7 +1,7 @@
 -- `sqimrutta::strip_pass` meets its contract. Each answer is a row of the table, or the pass (StripPass). Assumes nothing.
 use Prim.Native.Nat.{_-_}
 use denote.Ref.{now}
-use mathlib.Core.Path.{refl, ap, sym, _∙_}
+use mathlib.Core.Path.{ap, sym, _∙_}
 use native.Mathlib.Omega.{arith}
 use borrow.Author.Tests.{not-true, not-false}
 use Rattle.layout.specs.Calls.{After}

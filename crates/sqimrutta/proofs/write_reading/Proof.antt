@@ -1,8 +1,6 @@
 -- `sqimrutta::write_reading` meets its contract. Fetched, filled, its deletions dropped, sealed (Reading). Assumes nothing.
-use Prim.Native.Nat.{_+_, _*_, _-_}
+use Prim.Native.Nat.{_-_}
 use denote.Ref.{now}
-use mathlib.Core.Path.{ap, sym, _∙_}
-use native.Mathlib.Omega.{arith}
 use Rattle.sqimrutta.proofs.Reading.{good-canonical, counted, good-ascends, reading-lent}
 use borrow.Author.Needs.{needs}
 use Rattle.sqimrutta.proofs.write_reading.Statement.{statement}

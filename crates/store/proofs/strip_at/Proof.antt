@@ -1,5 +1,5 @@
 -- `store::strip_at` meets its contract. Stripped, and closed where it is gone (Stripped). Assumes nothing.
-use Prim.Native.Nat.{_+_, _*_, _-_}
+use Prim.Native.Nat.{_-_}
 use denote.Ref.{now}
 use mathlib.Core.Path.{sym, _∙_}
 use native.Mathlib.Omega.{arith}
@@ -7,7 +7,7 @@ use borrow.Author.Tests.{not-true, not-false}
 use Rattle.block.proofs.Numbers.{bytes-of}
 use Rattle.layout.specs.Clocks.{decode-clock}
 use Rattle.image.proofs.Blocks.{image-decoded}
-use Rattle.store.proofs.Stripped.{count-now, inside-now, lent-long, lent-few, gone-is, stays, goes}
+use Rattle.store.proofs.Stripped.{count-now, lent-long, lent-few, gone-is, stays, goes}
 use borrow.Author.Needs.{needs}
 use Rattle.store.proofs.strip_at.Statement.{statement}
 use Rattle.store.proofs.strip_at.Tie as tie

@@ -1,5 +1,5 @@
 -- `store::strip_record` meets its contract. The lent block stripped and sealed (Stripped). Assumes nothing.
-use Prim.Native.Nat.{_+_, _*_, _-_}
+use Prim.Native.Nat.{_-_}
 use denote.Ref.{now}
 use mathlib.Core.Path.{refl}
 use native.Mathlib.Omega.{arith}
