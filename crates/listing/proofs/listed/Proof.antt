@@ -2,21 +2,21 @@
 use mathlib.Core.Path.{_∙_, ap}
 use Prim.Native.Nat.{ℕ, min}
 use Rattle.listing.proofs.Texts.{listed-are}
-use borrow.Author.Needs.{needs}
+use native.Mathlib.Omega.{arith}
 use Rattle.listing.proofs.listed.Statement.{statement}
 use Rattle.listing.proofs.listed.Tie as tie
 
 entry-count-requires : tie.Need-entry-count-requires
-entry-count-requires c κs = search needs
+entry-count-requires c κs = omega arith
 
 cast-at-most : tie.Need-cast-at-most
-cast-at-most c = search needs
+cast-at-most c = omega arith
 
 at-most-requires : tie.Need-at-most-requires
-at-most-requires c κs = search needs
+at-most-requires c κs = omega arith
 
 cast-result : tie.Need-cast-result
-cast-result c = search needs
+cast-result c = omega arith
 
 returns : tie.Need-returns
 returns c = listed-are (c .before .before .before .args .b .now) _ (c .at-most .ensures ∙ ap (λ (n : ℕ). min n 60) (c .before .entry-count .ensures))

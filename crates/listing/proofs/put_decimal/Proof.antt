@@ -1,14 +1,14 @@
 -- `listing::put_decimal` meets its contract. Assumes nothing.
-use borrow.Author.Needs.{needs}
+use native.Mathlib.Omega.{arith}
 use Rattle.layout.specs.Listing.{decimal}
 use Rattle.listing.proofs.put_decimal.Statement.{statement}
 use Rattle.listing.proofs.put_decimal.Tie as tie
 
 put-digits-requires : tie.Need-put-digits-requires
-put-digits-requires c κs = search needs
+put-digits-requires c κs = omega arith
 
 same-length : tie.Need-same-length
-same-length c = search needs
+same-length c = omega arith
 
 returns : tie.Need-returns
 unfolding decimal

@@ -1,6 +1,5 @@
 -- `listing::put_refused` meets its contract. Assumes nothing.
 use mathlib.Core.List.{[], _∷_, _++_}
-use borrow.Author.Needs.{needs}
 use native.Mathlib.Omega.{arith}
 use mathlib.Core.Path.{ap}
 use Prim.Native.Nat.{ℕ}
@@ -11,22 +10,22 @@ use Rattle.listing.proofs.put_refused.Statement.{statement}
 use Rattle.listing.proofs.put_refused.Tie as tie
 
 slice-aggregate-put-after : tie.Need-slice-aggregate-put-after
-slice-aggregate-put-after c = search needs
+slice-aggregate-put-after c = omega arith
 
 number-requires : tie.Need-number-requires
-number-requires c κs = search needs
+number-requires c κs = omega arith
 
 put-after-requires : tie.Need-put-after-requires
-put-after-requires c κs = search needs
+put-after-requires c κs = omega arith
 
 slice-aggregate-put-word : tie.Need-slice-aggregate-put-word
-slice-aggregate-put-word c = search needs
+slice-aggregate-put-word c = omega arith
 
 put-word-requires : tie.Need-put-word-requires
-put-word-requires c κs = search needs
+put-word-requires c κs = omega arith
 
 same-length : tie.Need-same-length
-same-length c = search needs
+same-length c = omega arith
 
 returns : tie.Need-returns
 unfolding refused-line
