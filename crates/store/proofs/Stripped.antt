@@ -155,7 +155,7 @@ module _ (img x : List ℕ) (bytes : Bytes img) (size : length img ≡ image-len
     pub goes : g ≡ true → (y : List ℕ) → (decode y ≡ with-points (decode x) (remove-at (decode x .points) i)) × Canonical y → (decode y ≡ with-points (decode img) (restored k (decode img .points) i)) × Canonical y
     goes t y c = (
       c .0 ∙ ap₂ (λ (s : State) (qs : List Stored). with-points s (remove-at qs i)) (strips .0) points-now
-      ∙ ap (with-points (decode img)) (removed ∙ sym (ap (λ (b : Bool). if b then remove-at ps i else put-at ps i (stripped k r)) (sym gone-is ∙ t))),
+          ∙ ap (with-points (decode img)) (removed ∙ sym (ap (λ (b : Bool). if b then remove-at ps i else put-at ps i (stripped k r)) (sym gone-is ∙ t))),
       c .1,
     )
       where
