@@ -4,15 +4,14 @@
  * Standard input: the first three images of `second images` (a fresh one, a full one with one version a point, a full one
  * with eight). */
 
+#include "../include/sqimrutta.h"
 #include "../second/stream.h"
-
-uint32_t sqimrutta_good(const uint8_t *image, size_t image_len);
 
 /* checks.c, built twice */
 uint32_t bare_checks(const uint8_t *image);
 uint32_t bare_checks_unrolled(const uint8_t *image);
 
-enum { IMAGE = 67 * 512 };
+enum { IMAGE = SQIMRUTTA_IMAGE };
 
 static uint8_t fresh[IMAGE], one[IMAGE], eight[IMAGE];
 

@@ -6,10 +6,8 @@
  *
  * Exit: 0 no difference, 1 a difference, 2 not a whole stream. */
 
+#include "../include/sqimrutta.h"
 #include "stream.h"
-
-/* A slice is a pointer and a size_t. 1: good, 0: not. */
-uint32_t sqimrutta_good(const uint8_t *image, size_t image_len);
 
 enum { KINDS = 512, NAME = 80 };
 

@@ -9,11 +9,10 @@
  *
  * Exit: 0 no mismatch, 1 a mismatch, 2 not a whole stream. */
 
+#include "../include/sqimrutta.h"
 #include "stream.h"
 
-/* A slice is a pointer and a size_t; a context's length is its number of counters. */
-uint32_t sqimrutta_start(uint8_t *image, size_t image_len, uint8_t number, const uint8_t *table, size_t table_len);
-uint32_t sqimrutta_read(const uint8_t *image, size_t image_len, uint8_t job, uint16_t point, uint8_t *out, size_t out_len);
+/* The calls that the header has not yet. A slice is a pointer and a size_t; a context's length is its number of counters. */
 uint32_t sqimrutta_write(uint8_t *image, size_t image_len, uint8_t job, uint16_t point, const uint8_t *value,
                          size_t value_len, const uint32_t *context, size_t context_len, uint8_t *out, size_t out_len);
 uint32_t sqimrutta_delete(uint8_t *image, size_t image_len, uint8_t job, uint16_t point, const uint32_t *context,
@@ -23,7 +22,6 @@ uint32_t sqimrutta_ask(const uint8_t *image, size_t image_len, uint8_t to, uint8
 uint32_t sqimrutta_reply(const uint8_t *image, size_t image_len, const uint8_t *ask, size_t ask_len, uint8_t *out,
                          size_t out_len, uint32_t *count);
 uint32_t sqimrutta_repair(uint8_t *image, size_t image_len, const uint8_t *reply, size_t reply_len);
-uint32_t sqimrutta_strip_pass(uint8_t *image, size_t image_len, uint32_t *count);
 
 #ifndef HAVE
 #define HAVE 0x3fe

@@ -1,0 +1,66 @@
+/* Sqimrutta: the shared points of one survey handheld, kept in an image that you lend.
+ *
+ * Every function here is proved to end with an answer on any bytes, lengths and numbers, to write only what its comment says, and to leave every
+ * lent byte as it was when it refuses. It keeps nothing between calls, takes no memory but some hundred bytes of stack (docs/MEASURES.md), and needs
+ * only `memset` of a C library. A pointer must be valid for the length that goes with it, also where that length is wrong; two buffers of one call
+ * must not overlap.
+ *
+ * Link with libsqimrutta.a, which `rt staticlib sqimrutta` writes to target/staticlib. */
+
+#ifndef SQIMRUTTA_H
+#define SQIMRUTTA_H
+
+#include <stddef.h>
+#include <stdint.h>
+
+#ifdef __cplusplus
+extern "C" {
+#endif
+
+/* Lengths in bytes. */
+enum {
+    SQIMRUTTA_BLOCK = 512,          /* a block; a reading is one */
+    SQIMRUTTA_IMAGE = 67 * 512,     /* an image: what the handheld stores */
+    SQIMRUTTA_TABLE = 8             /* the crew table: a byte for each job 0..7, bit n-1 says that controller n holds it */
+};
+
+/* What a call returns: 0, or the first of these that applies, in this order. A refused call has changed nothing. */
+enum {
+    SQIMRUTTA_ACCEPTED = 0,
+    SQIMRUTTA_WRONG_LENGTH = 1,      /* a lent buffer has the wrong length */
+    SQIMRUTTA_IMAGE_NOT_GOOD = 2,    /* the image is not one that the library left: damaged, or of something else */
+    SQIMRUTTA_WRONG_CHECK = 3,       /* a message block's check is wrong: damaged on its way */
+    SQIMRUTTA_ILL_FORMED = 4,        /* the message is not laid out as it should be, or names what there is not */
+    SQIMRUTTA_OUT_OF_RANGE = 5,      /* an argument outside its range, or a job not held here or not by the sender */
+    SQIMRUTTA_NOT_PEER = 6,          /* the sender or the asked party is not another peer, or the message is for another */
+    SQIMRUTTA_VALUE_TOO_LONG = 7,    /* a value over 24 bytes */
+    SQIMRUTTA_CONTEXT_AHEAD = 8,     /* the given context is above the present reading's in some entry */
+    SQIMRUTTA_HISTORY_LOST = 9,      /* the message knows of own writes that this image does not: it is an old copy */
+    SQIMRUTTA_DOT_CLASH = 10,        /* a write in the message is stored here with other contents, or for another point */
+    SQIMRUTTA_ROW_TOO_FAR = 11,      /* too many writes are missing before the one that came */
+    SQIMRUTTA_TOO_MANY_VERSIONS = 12,/* a point would have more than 8 versions */
+    SQIMRUTTA_TOO_MANY_POINTS = 13,  /* more than 64 stored points */
+    SQIMRUTTA_OWN_LIST_FULL = 14,    /* 60 own writes are not known to all peers yet: repair first */
+    SQIMRUTTA_COUNTERS_USED_UP = 15  /* the own counter is at its end, 4,294,967,295 */
+};
+
+/* Whether these bytes are a good image: 1 or 0. No call needs it beforehand, each asks it itself; it is there for a look after a reset. */
+uint32_t sqimrutta_good(const uint8_t *image, size_t image_len);
+
+/* A fresh image (SQIMRUTTA_IMAGE bytes, whatever they were) for the controller `number`, 1..8, with the crew's table (SQIMRUTTA_TABLE bytes).
+ * A number is started once in the life of a crew. Refusals 1, 5. */
+uint32_t sqimrutta_start(uint8_t *image, size_t image_len, uint8_t number, const uint8_t *table, size_t table_len);
+
+/* What the point (job 0..7, point 1..65535) shows: a block of kind 7 in `out` (SQIMRUTTA_BLOCK bytes). Byte 5 is the number of versions; from 40
+ * on 32 bytes each: controller, length, two zeros, counter (4), value. Bytes 8-39 are the context, eight counters of 4, which a write that
+ * replaces these versions gives back. Little-endian. Refusals 1, 2, 5. */
+uint32_t sqimrutta_read(const uint8_t *image, size_t image_len, uint8_t job, uint16_t point, uint8_t *out, size_t out_len);
+
+/* Frees what is known by now; changes no reading. `*count` is the number of records gone, 0 where it is refused. Refusals 1, 2. */
+uint32_t sqimrutta_strip_pass(uint8_t *image, size_t image_len, uint32_t *count);
+
+#ifdef __cplusplus
+}
+#endif
+
+#endif
