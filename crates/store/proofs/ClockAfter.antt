@@ -1,22 +1,22 @@
 -- The clock after a write or a delete: the own row counts one more, and every other row is as it was. Assumes nothing.
-use Prim.Native.Nat.{ℕ, _+_, _-_, _≤_, _<_}
+use Prim.Native.Nat.{ℕ, _+_, _-_, _≤_}
 use mathlib.Core.Path.{_≡_, refl, ap, sym, _∙_, subst}
 use mathlib.Core.Logic.{_⊎_, inl, inr, ⊎-elim, ⊎-map}
-use mathlib.Core.Bool.{Bool, true, false, not}
+use mathlib.Core.Bool.{true, false, not}
 use mathlib.Core.List.{List, [], _∷_, List·Memᴰ·eq-of-singleton}
 use native.Mathlib.Omega.{arith}
 use lib.ListN.{length, getD}
-use lib.Dec.{ltb, eqb}
-use borrow.Author.Tests.{ltb-true, ltb-false, eqb-true, eqb-false}
+use lib.Dec.{ltb}
+use borrow.Author.Tests.{ltb-true, ltb-false, eqb-false}
 use Rattle.numbers.specs.declared.Controller.{Controller}
 use Rattle.numbers.specs.declared.Counter.{Counter}
 use Rattle.numbers.specs.declared.Dot.{Dot}
 use Rattle.numbers.specs.declared.Key.{Key}
-use Rattle.numbers.specs.Words.{keep, place}
+use Rattle.numbers.specs.Words.{keep}
 use Rattle.numbers.specs.Numbers.{counter, same-controller, Crew}
 use Rattle.numbers.proofs.Tests.{by-test, _∈_, here}
 use Rattle.numbers.proofs.Lists.{in-keep, in-place, place-here}
-use Rattle.numbers.proofs.Controllers.{same-controllers, controller-itself}
+use Rattle.numbers.proofs.Controllers.{same-controllers}
 use Rattle.block.specs.Fields.{put-at}
 use Rattle.block.proofs.Parts.{splice-length}
 use Rattle.block.proofs.Places.{place-below, place-above}
@@ -26,9 +26,9 @@ use Rattle.row.proofs.Members.{Clear, has-positive, low-has, whole-has, row-det
 use Rattle.row.proofs.Adding.{add-all, Positive, add-all-has, add-all-clear}
 use Rattle.row.proofs.Highest.{sound-clear}
 use Rattle.meaning.specs.CrewTable.{holds}
-use Rattle.meaning.specs.Clock.{Clock, row, in-clock}
+use Rattle.meaning.specs.Clock.{row, in-clock}
 use Rattle.meaning.specs.Context.{Context, covers}
-use Rattle.meaning.specs.Object.{Contents, Version, version-before, Object}
+use Rattle.meaning.specs.Object.{Contents, Version, version-before}
 use Rattle.meaning.specs.State.{Stored, Listed, State, own-base, dots-of, local}
 use Rattle.meaning.specs.Settle.{entered}
 use Rattle.meaning.specs.OwnSteps.{next-dot, written}
@@ -77,7 +77,7 @@ module _ (s : State) (G : Good s) (k : Key) (b : Contents) (c : Context) (held :
   clear : (n : Controller) → Crew n → Clear (row (s .clock) n)
   clear n r = sound-clear (row (s .clock) n) (G .row-sound n r .1)
 
-  row-other : (n : Controller) → Crew n → (n ≡ s .own → ⊥) → row (entered (s .clock) (record { key = k; object = written s k b c } ∷ [])) n ≡ row (s .clock) n
+  pub row-other : (n : Controller) → Crew n → (n ≡ s .own → ⊥) → row (entered (s .clock) (record { key = k; object = written s k b c } ∷ [])) n ≡ row (s .clock) n
   row-other n r other =
       entered-row (s .clock) (result ∷ []) n r
       ∙ row-determined (add-all (row (s .clock) n) (counts n dots)) (row (s .clock) n) (add-all-clear (row (s .clock) n) (counts n dots) (clear n r)) (clear n r)
@@ -113,7 +113,7 @@ module _ (s : State) (G : Good s) (k : Key) (b : Contents) (c : Context) (held :
       ⊎-elim (λ h. omega (arith, whole-has own-row (counter (after .base)) (G .own-whole) h)) (λ m. low (counter (after .base)) m)
       (add-all-has own-row cs (counter (after .base)) (positive (s .own)) .0 (low-has after (counter (after .base)) (omega (arith, after-least)) (omega arith)))
 
-  row-own : row (entered (s .clock) (record { key = k; object = written s k b c } ∷ [])) (s .own) ≡ record { base = own-base s + 1; bits = 0 }
+  pub row-own : row (entered (s .clock) (record { key = k; object = written s k b c } ∷ [])) (s .own) ≡ record { base = own-base s + 1; bits = 0 }
   unfolding after
   row-own = entered-row (s .clock) (result ∷ []) (s .own) (G .own-crew) ∙ (λ i. record { base = base-is i; bits = after-whole i })
     where

@@ -1,19 +1,17 @@
 -- The dot lists after a write or a delete: the new dot stands last in the own list, and the foreign list is as it was. Assumes nothing.
-use Prim.Native.Nat.{ℕ, _+_, _-_, _≤_, _<_}
-use mathlib.Core.Path.{_≡_, refl, ap, sym, _∙_, subst}
-use mathlib.Core.Logic.{_⊎_, inl, inr, ⊎-elim}
+use Prim.Native.Nat.{_+_, _-_}
+use mathlib.Core.Path.{_≡_, refl, ap, sym, _∙_}
+use mathlib.Core.Logic.{inr}
 use mathlib.Core.Bool.{Bool, true, false, not}
 use mathlib.Core.List.{List, [], _∷_, _++_, append-nil}
 use native.Mathlib.Omega.{arith}
 use lib.ListN.{length, take, drop, drop-of-length-le}
 use lib.Seq.{take-all, take-nil}
 use Rattle.numbers.specs.declared.Controller.{Controller}
-use Rattle.numbers.specs.declared.Dot.{Dot}
 use Rattle.numbers.specs.declared.Key.{Key}
 use Rattle.numbers.specs.Words.{if_then_else_, cons-if, keep, place, place-all, map}
 use Rattle.numbers.specs.Numbers.{same-controller}
-use Rattle.numbers.specs.Dot.{dot-before}
-use Rattle.numbers.proofs.Tests.{by-test, never, _∈_, here, there}
+use Rattle.numbers.proofs.Tests.{by-test, _∈_, here, there}
 use Rattle.numbers.proofs.Lists.{in-keep}
 use Rattle.numbers.proofs.Orders.{lt-pair}
 use Rattle.numbers.proofs.Controllers.{same-controllers, controller-itself}
@@ -22,7 +20,7 @@ use Rattle.meaning.specs.CrewTable.{holds}
 use Rattle.meaning.specs.Clock.{in-clock}
 use Rattle.meaning.specs.Context.{Context, covers}
 use Rattle.meaning.specs.Object.{Contents, Version, version-before}
-use Rattle.meaning.specs.State.{Stored, Listed, listed-before, State, own-base, listed, dots-of, local}
+use Rattle.meaning.specs.State.{Stored, Listed, listed-before, State, own-base, dots-of, local}
 use Rattle.meaning.specs.Settle.{most-listed, newly-listed, own-listed, foreign-listed}
 use Rattle.meaning.specs.OwnSteps.{next-dot, written}
 use Rattle.laws.proofs.Goodness.{Good}
