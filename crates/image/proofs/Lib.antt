@@ -5,11 +5,5 @@ pub mod InOrder
 pub mod Loops
 pub mod Whole
 pub mod ListedFor
-pub mod Blocks
-pub mod Moved
-pub mod Opening
-pub mod Closing
-pub mod Lifting
 pub mod Finding
 pub mod Placing
-pub mod Fetching

@@ -14,9 +14,9 @@ use Rattle.block.proofs.Numbers.{Bytes}
 use Rattle.block.proofs.Arrays.{upto-at, getD-in}
 use Rattle.meaning.specs.Object.{Version}
 use Rattle.layout.specs.PointBlock.{form-1, decode-point}
-use Rattle.record.specs.Written.{Written, lay-point, point-block, with-versions}
+use Rattle.record_edits.specs.Written.{Written, lay-point, point-block, with-versions}
 use Rattle.record.proofs.Reading.{version-at, versions-are}
-use Rattle.record.proofs.Edits.{count-is, few-versions}
+use Rattle.record_edits.proofs.Edits.{count-is, few-versions}
 
 module _ {A : Type 0} (f : A → Bool) (xs : List A) (d : A) where
   -- those from the i-th on are tested, and those that failed are gone

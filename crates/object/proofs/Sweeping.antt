@@ -20,7 +20,7 @@ use Rattle.block.proofs.Parts.{splice-length}
 use Rattle.block.proofs.Arrays.{upto-length, upto-at}
 use Rattle.block.proofs.Places.{place-below, place-here, place-above}
 use Rattle.meaning.specs.Context.{Context, entry}
-use Rattle.record.specs.Written.{Written, lay-point, point-block, with-object, put-entry}
+use Rattle.record_edits.specs.Written.{Written, lay-point, point-block, with-object, put-entry}
 
 -- one of those below n put anew
 upto-put : {A : Type 0} (n : ℕ) (g h : ℕ → A) (i : ℕ) → i < n → ((k : ℕ) → k < n → (k ≡ i → ⊥) → g k ≡ h k) → put-at (upto n g) i (h i) ≡ upto n h

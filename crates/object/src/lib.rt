@@ -15,7 +15,7 @@ ghost use Rattle.meaning.specs.Object.{has-value, fill, strip};
 ghost use Rattle.layout.specs.PointBlock.{form-1, decode-point};
 ghost use Rattle.layout.specs.Clocks.{decode-clock};
 ghost use Rattle.record.specs.Crewed.{crewed};
-ghost use Rattle.record.specs.Written.{lay-point, point-block, with-object, with-versions};
+ghost use Rattle.record_edits.specs.Written.{lay-point, point-block, with-object, with-versions};
 
 fn filled_entry(e: Counter, holder: bool, base: u32) -> Counter
     ensures { λ r. ⌜ r ≡ (if holder then counter (max (e .0) base) else e) ⌝ }
@@ -50,7 +50,7 @@ pub fn fill_in(b: &mut [u8], table: &[u8], rows: &[u8])
         let e = record::context_entry(b, n);
         let r = parts::row_at(rows, n);
         let filled = filled_entry(e, parts::holds(table, n, job), r.base);
-        record::set_entry(b, n, filled);
+        record_edits::set_entry(b, n, filled);
         i += 1;
     }
 }
@@ -65,7 +65,7 @@ pub fn strip_off(b: &mut [u8], rows: &[u8])
         let n = Controller(i + 1);
         let e = record::context_entry(b, n);
         let r = parts::row_at(rows, n);
-        record::set_entry(b, n, stripped_entry(e, r.base));
+        record_edits::set_entry(b, n, stripped_entry(e, r.base));
         i += 1;
     }
 }
@@ -79,7 +79,7 @@ pub fn drop_deleted(b: &mut [u8])
     while 0 < i {
         i -= 1;
         if record::said_length(b, i) == 255 {
-            record::remove_version(b, i);
+            record_edits::remove_version(b, i);
         }
     }
 }
@@ -102,7 +102,7 @@ pub fn drop_covered(b: &mut [u8], context: &[u32])
     while 0 < i {
         i -= 1;
         if given_covers(context, record::version_dot(b, i)) {
-            record::remove_version(b, i);
+            record_edits::remove_version(b, i);
         }
     }
 }

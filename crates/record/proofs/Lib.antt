@@ -3,5 +3,3 @@ pub mod Walk
 pub mod LaidOut
 pub mod Formed
 pub mod Questions
-pub mod Stores
-pub mod Edits

@@ -1,3 +1,2 @@
 pub mod RecordGood
 pub mod Crewed
-pub mod Written

@@ -30,7 +30,7 @@ use Rattle.layout.specs.Image.{image-length, Head, decode-head, encode, decode,
 use Rattle.layout.specs.Messages.{encode-reading}
 use Rattle.layout.specs.Calls.{Left, afterwards, one-block, on-image, read-call}
 use Rattle.layout.proofs.CallsGood.{good-image}
-use Rattle.record.specs.Written.{Written, lay-point, point-block, with-object, with-versions}
+use Rattle.record_edits.specs.Written.{Written, lay-point, point-block, with-object, with-versions}
 use Rattle.image.specs.Parts.{stored-count}
 use Rattle.image.specs.Apart.{point-at}
 use Rattle.image.proofs.Counted.{points-are}

@@ -20,7 +20,7 @@ use Rattle.layout.specs.Clocks.{decode-clock}
 use Rattle.layout.specs.Image.{image-length, encode, decode, goodImage}
 use Rattle.layout.specs.Calls.{Left, afterwards, on-image, strip-pass-call}
 use Rattle.image.specs.Places.{no-point}
-use Rattle.image.specs.Edits.{Canonical, with-points}
+use Rattle.image_edits.specs.Edits.{Canonical, with-points}
 use Rattle.store.specs.Restored.{restored}
 use Rattle.store.proofs.Pass.{kept, pass-is, from, from-none, from-more}
 use Rattle.sqimrutta.proofs.Reading.{clock-part}

@@ -116,7 +116,7 @@ fn write_reading(image: &[u8], k: Key, out: &mut [u8])
 {
     let own = head::own_of(&image[0..512]);
     let count = image::stored_count(image);
-    image::fetch(image, count, k, 7, own, out);
+    image_edits::fetch(image, count, k, 7, own, out);
     object::fill_in(out, &image[8..16], &image[16..112]);
     object::drop_deleted(out);
     block::seal_block(out);

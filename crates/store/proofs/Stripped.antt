@@ -29,14 +29,14 @@ use Rattle.meaning.specs.Settle.{stripped}
 use Rattle.layout.specs.PointBlock.{form-1, unsent, encode-stored, decode-point}
 use Rattle.layout.specs.Image.{image-length, decode}
 use Rattle.layout.proofs.ImageBack.{StoredSized, stored-length}
-use Rattle.record.specs.Written.{Written, lay-point, point-block, with-object}
-use Rattle.record.proofs.Edits.{stored-says, count-is, few-versions}
+use Rattle.record_edits.specs.Written.{Written, lay-point, point-block, with-object}
+use Rattle.record_edits.proofs.Edits.{stored-says, count-is, few-versions}
 use Rattle.image.specs.Places.{no-point}
-use Rattle.image.specs.Edits.{Canonical, with-points}
-use Rattle.image.proofs.Blocks.{image-decoded, canonical-blocks}
-use Rattle.image.proofs.Moved.{Put}
+use Rattle.image_edits.specs.Edits.{Canonical, with-points}
+use Rattle.image_edits.proofs.Blocks.{image-decoded, canonical-blocks}
+use Rattle.image_edits.proofs.Moved.{Put}
 use Rattle.store.specs.Restored.{restored}
-use Rattle.image.proofs.Lifting.{part-sealed, point-lifted}
+use Rattle.image_edits.proofs.Lifting.{part-sealed, point-lifted}
 
 -- what is stripped is within its sizes still
 strip-sized : (k : Clock) (p : Stored) → StoredSized p → StoredSized (stripped k p)

@@ -8,7 +8,7 @@ ghost use Rattle.meaning.specs.Settle.{stripped};
 ghost use Rattle.layout.specs.Clocks.{decode-clock};
 ghost use Rattle.layout.specs.Image.{image-length, decode};
 ghost use Rattle.image.specs.Places.{no-point};
-ghost use Rattle.image.specs.Edits.{Canonical, with-points};
+ghost use Rattle.image_edits.specs.Edits.{Canonical, with-points};
 ghost use Rattle.store.specs.Restored.{restored};
 
 // The i-th record is stripped by these rows.
@@ -34,6 +34,6 @@ pub fn strip_at(image: &mut [u8], count: usize, i: usize, rows: &[u8]) -> bool
     if !record::is_gone(&image[at..at + 512]) {
         return false;
     }
-    image::close_place(image, count, i);
+    image_edits::close_place(image, count, i);
     true
 }

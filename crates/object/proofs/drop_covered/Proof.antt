@@ -9,7 +9,7 @@ use Rattle.numbers.specs.Numbers.{counter}
 use Rattle.block.proofs.Numbers.{bytes-of}
 use Rattle.meaning.specs.Context.{covers}
 use Rattle.layout.specs.PointBlock.{form-1, decode-point}
-use Rattle.record.specs.Written.{point-block}
+use Rattle.record_edits.specs.Written.{point-block}
 use Rattle.object.proofs.Dropping.{Dropped, dropping-none, dropping-inside, dropping-small, dropping-one, dropping-keeps, dropping-drops, dropping-all}
 use Rattle.object.proofs.Entries.{crewed-dot}
 use borrow.Author.Needs.{needs}
@@ -18,7 +18,7 @@ use Rattle.object.proofs.drop_covered.Tie as tie
 use Rattle.object.proofs.drop_covered.Reads as reads
 use Rattle.object.proofs.drop_covered.Lts as lts
 use Rattle.object.proofs.given_covers.Reads as given-covers-reads
-use Rattle.record.proofs.remove_version.Reads as remove-version-reads
+use Rattle.record_edits.proofs.remove_version.Reads as remove-version-reads
 use Rattle.record.proofs.version_count.Reads as version-count-reads
 use Rattle.record.proofs.version_dot.Reads as version-dot-reads
 

@@ -5,7 +5,7 @@ use mathlib.Core.Path.{refl}
 use native.Mathlib.Omega.{arith}
 use Rattle.block.proofs.Numbers.{bytes-of}
 use Rattle.meaning.specs.Object.{has-value}
-use Rattle.record.specs.Written.{point-block}
+use Rattle.record_edits.specs.Written.{point-block}
 use Rattle.object.proofs.Dropping.{Dropped, dropping-none, dropping-inside, dropping-small, dropping-keeps, dropping-drops, dropping-all}
 use Rattle.object.proofs.Entries.{is-deleted, is-value}
 use borrow.Author.Needs.{needs}
@@ -13,7 +13,7 @@ use Rattle.object.proofs.drop_deleted.Statement.{statement}
 use Rattle.object.proofs.drop_deleted.Tie as tie
 use Rattle.object.proofs.drop_deleted.Reads as reads
 use Rattle.object.proofs.drop_deleted.Lts as lts
-use Rattle.record.proofs.remove_version.Reads as remove-version-reads
+use Rattle.record_edits.proofs.remove_version.Reads as remove-version-reads
 use Rattle.record.proofs.said_length.Reads as said-length-reads
 use Rattle.record.proofs.version_count.Reads as version-count-reads
 

@@ -13,7 +13,7 @@ use Rattle.meaning.specs.Object.{fill}
 use Rattle.layout.specs.PointBlock.{form-1, decode-point}
 use Rattle.layout.specs.Clocks.{decode-clock}
 use Rattle.layout.proofs.Decoded.{point-decoded}
-use Rattle.record.specs.Written.{point-block}
+use Rattle.record_edits.specs.Written.{point-block}
 use Rattle.object.proofs.Sweeping.{Swept, sweeping-none, sweeping-entry, sweeping-more, sweeping-all}
 use Rattle.object.proofs.Entries.{entry-is}
 use borrow.Author.Needs.{needs}
@@ -26,7 +26,7 @@ use Rattle.object.proofs.filled_entry.Reads as filled-entry-reads
 use Rattle.parts.proofs.holds.Reads as holds-reads
 use Rattle.parts.proofs.row_at.Reads as row-at-reads
 use Rattle.record.proofs.context_entry.Reads as context-entry-reads
-use Rattle.record.proofs.set_entry.Reads as set-entry-reads
+use Rattle.record_edits.proofs.set_entry.Reads as set-entry-reads
 
 abbrev Inv-loop : tie.InvT-loop
 Inv-loop b₀ table rows job i₀ b i = Swept (point-block b₀) (λ n. if holds table n (decode-point form-1 b₀ .key .job) then counter (max (entry (decode-point form-1 b₀ .object .context) n .0) (row (decode-clock rows) n .base)) else entry (decode-point form-1 b₀ .object .context) n) i b

@@ -15,7 +15,7 @@ use Rattle.meaning.specs.Object.{strip}
 use Rattle.layout.specs.PointBlock.{form-1, decode-point}
 use Rattle.layout.specs.Clocks.{decode-clock}
 use Rattle.layout.proofs.Decoded.{point-decoded}
-use Rattle.record.specs.Written.{point-block}
+use Rattle.record_edits.specs.Written.{point-block}
 use Rattle.object.proofs.Sweeping.{Swept, sweeping-none, sweeping-entry, sweeping-more, sweeping-all}
 use borrow.Author.Needs.{needs}
 use Rattle.object.proofs.strip_off.Statement.{statement}
@@ -25,7 +25,7 @@ use Rattle.object.proofs.strip_off.Lts as lts
 use Rattle.object.proofs.stripped_entry.Reads as stripped-entry-reads
 use Rattle.parts.proofs.row_at.Reads as row-at-reads
 use Rattle.record.proofs.context_entry.Reads as context-entry-reads
-use Rattle.record.proofs.set_entry.Reads as set-entry-reads
+use Rattle.record_edits.proofs.set_entry.Reads as set-entry-reads
 
 abbrev Inv-loop : tie.InvT-loop
 Inv-loop b₀ rows i₀ b i = Swept (point-block b₀) (λ n. if leb (entry (decode-point form-1 b₀ .object .context) n .0) (row (decode-clock rows) n .base) then counter 0 else entry (decode-point form-1 b₀ .object .context) n) i b

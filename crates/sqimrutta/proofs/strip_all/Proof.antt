@@ -8,7 +8,7 @@ use Rattle.meaning.specs.Clock.{Clock}
 use Rattle.meaning.specs.Object.{strip, gone}
 use Rattle.layout.specs.Image.{decode}
 use Rattle.image.specs.Places.{no-point}
-use Rattle.image.specs.Edits.{with-points}
+use Rattle.image_edits.specs.Edits.{with-points}
 use Rattle.store.specs.Restored.{restored}
 use Rattle.sqimrutta.proofs.Reading.{counted, good-ascends, good-canonical, good-now}
 use Rattle.sqimrutta.proofs.StripPass.{Stripping, stripping-none, stripping-inside, stripping-more, went-one, went-none, stripped-image, stripped-count}

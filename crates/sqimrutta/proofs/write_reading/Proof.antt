@@ -9,7 +9,7 @@ use Rattle.sqimrutta.proofs.write_reading.Reads as reads
 use Rattle.sqimrutta.proofs.write_reading.Lts as lts
 use Rattle.block.proofs.seal_block.Reads as seal-block-reads
 use Rattle.head.proofs.own_of.Reads as own-of-reads
-use Rattle.image.proofs.fetch.Reads as fetch-reads
+use Rattle.image_edits.proofs.fetch.Reads as fetch-reads
 use Rattle.image.proofs.stored_count.Reads as stored-count-reads
 use Rattle.object.proofs.drop_deleted.Reads as drop-deleted-reads
 use Rattle.object.proofs.fill_in.Reads as fill-in-reads

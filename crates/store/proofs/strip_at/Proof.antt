@@ -6,14 +6,14 @@ use native.Mathlib.Omega.{arith}
 use borrow.Author.Tests.{not-true, not-false}
 use Rattle.block.proofs.Numbers.{bytes-of}
 use Rattle.layout.specs.Clocks.{decode-clock}
-use Rattle.image.proofs.Blocks.{image-decoded}
+use Rattle.image_edits.proofs.Blocks.{image-decoded}
 use Rattle.store.proofs.Stripped.{count-now, lent-long, lent-few, gone-is, stays, goes}
 use borrow.Author.Needs.{needs}
 use Rattle.store.proofs.strip_at.Statement.{statement}
 use Rattle.store.proofs.strip_at.Tie as tie
 use Rattle.store.proofs.strip_at.Reads as reads
 use Rattle.store.proofs.strip_at.Lts as lts
-use Rattle.image.proofs.close_place.Reads as close-place-reads
+use Rattle.image_edits.proofs.close_place.Reads as close-place-reads
 use Rattle.record.proofs.is_gone.Reads as is-gone-reads
 use Rattle.store.proofs.strip_record.Reads as strip-record-reads
 

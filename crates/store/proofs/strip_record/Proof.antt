@@ -5,7 +5,7 @@ use mathlib.Core.Path.{refl}
 use native.Mathlib.Omega.{arith}
 use Rattle.block.proofs.Numbers.{bytes-of}
 use Rattle.layout.specs.Clocks.{decode-clock}
-use Rattle.image.proofs.Blocks.{image-decoded}
+use Rattle.image_edits.proofs.Blocks.{image-decoded}
 use Rattle.store.proofs.Stripped.{record-laid, record-size, record-stripped}
 use borrow.Author.Needs.{needs}
 use Rattle.store.proofs.strip_record.Statement.{statement}
