@@ -1,12 +1,12 @@
 -- Tests that a function makes: one of each number below n, in a loop, and several one after the other. Assumes nothing.
 use Prim.Native.Nat.{ℕ, zero, suc, _+_, _≤_, _<_}
 use mathlib.Core.Path.{_≡_, refl, sym, ap, _∙_}
-use mathlib.Core.Bool.{Bool, true, false, _&&_, not}
+use mathlib.Core.Bool.{Bool, true, false, _&&_, _||_, not}
 use mathlib.Core.List.{List, [], _∷_}
 use native.Mathlib.Omega.{arith}
 use borrow.Author.Tests.{not-true, not-false}
 use borrow.Author.Count.{below-more}
-use Rattle.numbers.specs.Words.{every, all?}
+use Rattle.numbers.specs.Words.{every, all?, some?}
 use Rattle.numbers.proofs.Tests.{by-test, never, and-left, and-right, and-both}
 use Rattle.block.specs.Fields.{upto}
 
@@ -24,6 +24,15 @@ every-at (suc n) f t (suc k) l = every-at n (λ i. f (suc i)) (and-right (f 0) (
 pub all-upto : {A : Type 0} (p : A → Bool) (n : ℕ) (f : ℕ → A) → all? p (upto n f) ≡ every (upto n (λ i. p (f i)))
 all-upto p zero f = refl
 all-upto p (suc n) f = ap (λ (t : Bool). p (f 0) && t) (all-upto p n (λ i. f (suc i)))
+
+-- and one that some of them are to pass
+pub some-upto : {A : Type 0} (g : A → Bool) (n : ℕ) (f : ℕ → A) → some? g (upto n f) ≡ not (every (upto n (λ i. not (g (f i)))))
+some-upto g zero f = refl
+some-upto g (suc n) f = ap (λ (t : Bool). g (f 0) || t) (some-upto g n (λ i. f (suc i))) ∙ join (g (f 0)) (every (upto n (λ i. not (g (f (suc i))))))
+  where
+    join : (a b : Bool) → (a || not b) ≡ not (not a && b)
+    join true b = refl
+    join false b = refl
 
 -- the tests below i have passed
 pub record Passing (n : ℕ) (f : ℕ → Bool) (i : ℕ) : Type 0 where

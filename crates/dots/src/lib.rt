@@ -11,7 +11,6 @@ ghost use Prim.Native.Nat.{_+_, _*_, _<_, _≤_};
 ghost use lib.ListN.{length};
 ghost use Rattle.numbers.specs.Words.{same-list, ascends?};
 ghost use Rattle.numbers.specs.Numbers.{Crew};
-ghost use Rattle.numbers.specs.Dot.{dot-before};
 ghost use Rattle.block.specs.Fields.{cut, splice, insert-at, remove-at, field};
 ghost use Rattle.block.specs.Block.{Laid};
 ghost use Rattle.meaning.specs.State.{listed-before};
@@ -86,21 +85,6 @@ pub fn dots_laid_out(b: &[u8], position: u16) -> bool
     block::is_sealed(b)
 }
 
-// "ascending by controller and counter"
-pub fn dot_before(d: Dot, e: Dot) -> bool
-    ensures { λ r. ⌜ r ≡ dot-before d e ⌝ }
-{
-    let p = d.who.0;
-    let q = e.who.0;
-    if p < q {
-        return true;
-    }
-    if p != q {
-        return false;
-    }
-    d.count.0 < e.count.0
-}
-
 // "own and foreign dots": the own list holds own dots only, and the foreign list none.
 fn in_its_list(mine: bool, who: Controller, own: Controller) -> bool
     ensures { λ r. ⌜ r ≡ right-list mine own who ⌝ }
@@ -167,7 +151,7 @@ pub fn dots_good(b: &[u8], mine: bool, own: Controller, table: &[u8], rows: &[u8
         if !entry_good(d, entry_key(b, i), mine, own, table, rows) {
             return false;
         }
-        if !dot_before(last, d) {
+        if !last.before(d) {
             return false;
         }
         last = d;
@@ -188,10 +172,10 @@ pub fn find_dot(b: &[u8], d: Dot) -> Found
     while low < high {
         let mid = low + (high - low) / 2;
         let e = entry_dot(b, mid);
-        if dot_before(e, d) {
+        if e.before(d) {
             low = mid + 1;
         } else {
-            if !dot_before(d, e) {
+            if !d.before(e) {
                 return Found::At(mid);
             }
             high = mid;

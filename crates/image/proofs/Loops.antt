@@ -16,7 +16,7 @@ use Rattle.block.specs.Block.{block-at}
 use Rattle.block.proofs.Parts.{part-is}
 use Rattle.block.proofs.Arrays.{take-upto}
 use Rattle.block.proofs.ByIndex.{Pairs, ascends-upto, pairs-more, pairs-fail}
-use Rattle.block.proofs.Passing.{all-upto}
+use Rattle.block.proofs.Passing.{all-upto, some-upto}
 use Rattle.meaning.specs.Object.{Version, has-dot}
 use Rattle.meaning.specs.State.{stored-before}
 use Rattle.laws.proofs.Putting.{stored-order}
@@ -52,14 +52,6 @@ slot b i = decode-slot form-1 (cut b (40 + 32 * i) 32)
 pub versions-are : (b : List ℕ) → field b 5 1 ≤ 8 → decode-stored form-1 b .object .versions ≡ upto (field b 5 1) (slot b)
 unfolding decode-stored decode-point
 versions-are b h = take-upto (field b 5 1) 8 (slot b) h
-
-some-upto : {A : Type 0} (g : A → Bool) (n : ℕ) (f : ℕ → A) → some? g (upto n f) ≡ not (every (upto n (λ i. not (g (f i)))))
-some-upto g zero f = refl
-some-upto g (suc n) f = ap (λ (t : Bool). g (f 0) || t) (some-upto g n (λ i. f (suc i))) ∙ join (g (f 0)) (every (upto n (λ i. not (g (f (suc i))))))
-  where
-    join : (a b : Bool) → (a || not b) ≡ not (not a && b)
-    join true b = refl
-    join false b = refl
 
 -- the i-th version has another dot
 abbrev pub another : List ℕ → Dot → ℕ → Bool

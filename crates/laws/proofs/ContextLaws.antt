@@ -64,7 +64,7 @@ unfolding higher
 higher-entry a b n c = ap (λ (e : Counter). e .0) (entry-each (λ m. counter (max (entry a m .0) (entry b m .0))) n c)
 
 module _ (t : CrewTable) (j : ℕ) (k : Clock) (c : Context) (n : Controller) (r : Crew n) where
-  fill-entry : entry (fill-context t j k c) n ≡ (if holds t n j then counter (max (entry c n .0) (row k n .base)) else entry c n)
+  pub fill-entry : entry (fill-context t j k c) n ≡ (if holds t n j then counter (max (entry c n .0) (row k n .base)) else entry c n)
   unfolding fill-context
   fill-entry = entry-each (λ m. if holds t m j then counter (max (entry c m .0) (row k m .base)) else entry c m) n r
 
@@ -75,7 +75,7 @@ module _ (t : CrewTable) (j : ℕ) (k : Clock) (c : Context) (n : Controller) (r
   fill-other h = rw (fill-entry, h)
 
 module _ (k : Clock) (c : Context) (n : Controller) (r : Crew n) where
-  strip-entry : entry (strip-context k c) n ≡ (if leb (entry c n .0) (row k n .base) then counter 0 else entry c n)
+  pub strip-entry : entry (strip-context k c) n ≡ (if leb (entry c n .0) (row k n .base) then counter 0 else entry c n)
   unfolding strip-context
   strip-entry = entry-each (λ m. if leb (entry c m .0) (row k m .base) then counter 0 else entry c m) n r
 

@@ -1,6 +1,6 @@
 // "Controller numbers, counters and point numbers are kept apart": each is a type of its own, here and in every definition.
 ghost use mathlib.Core.Path.{_≡_};
-ghost use Rattle.numbers.specs.Dot.{same-dot};
+ghost use Rattle.numbers.specs.Dot.{same-dot, dot-before};
 ghost use Rattle.numbers.specs.Key.{same-key, key-before};
 
 // A controller number, 1 to 8.
@@ -32,6 +32,19 @@ impl Dot {
             return false;
         }
         self.count.0 == other.count.0
+    }
+
+    // "ascending by controller and counter"
+    pub fn before(self, other: Dot) -> bool
+        ensures { λ r. ⌜ r ≡ dot-before self other ⌝ }
+    {
+        if self.who.0 < other.who.0 {
+            return true;
+        }
+        if self.who.0 != other.who.0 {
+            return false;
+        }
+        self.count.0 < other.count.0
     }
 }
 

@@ -137,16 +137,18 @@ said-deleted b i = by-test (eqb n 255) (λ t. rw t) (λ t. rw t) ∙ ap (λ (m :
     there : field (cut b (40 + 32 * i) 32) 1 1 ≡ field b (41 + 32 * i) 1
     there = field-of-cut b (40 + 32 * i) 32 1 1 (omega arith) ∙ ap (λ (o : ℕ). field b o 1) place
 
+-- no version has a value where each says that it is deleted
+pub none-has-value : (b : List ℕ) {count : ℕ} → field b 5 1 ≤ 8 → count ≡ field b 5 1
+    → not (some? (λ v. has-value (v .contents)) (decode-point form-1 b .object .versions)) ≡ every (upto count (λ i. eqb (field b (41 + 32 * i) 1) 255))
+none-has-value b {count} l r =
+    not-some (λ v. has-value (v .contents)) (decode-point form-1 b .object .versions)
+    ∙ sym (all-versions b (λ v. not (has-value (v .contents))) l r)
+    ∙ ap every (upto-same count (λ i. not (has-value (version-at b i .contents))) (λ i. eqb (field b (41 + 32 * i) 1) 255) (λ i h. said-deleted b i))
+
 pub gone-tests : (b : List ℕ) {count : ℕ} → length b ≡ 512 → field b 5 1 ≤ 8 → count ≡ field b 5 1
     → HangsOn (gone (decode-point form-1 b .object)) (zero-part (cut b 8 32) ∷ every (upto count (λ i. eqb (field b (41 + 32 * i) 1) 255)) ∷ [])
 unfolding gone
-gone-tests b {count} e l r = record { hangs = ap₂ _&&_ (context-empty b e) (deletions ∙ sym (and-true (every (upto count (λ i. eqb (field b (41 + 32 * i) 1) 255))))) }
-  where
-    deletions : not (some? (λ v. has-value (v .contents)) (decode-point form-1 b .object .versions)) ≡ every (upto count (λ i. eqb (field b (41 + 32 * i) 1) 255))
-    deletions =
-        not-some (λ v. has-value (v .contents)) (decode-point form-1 b .object .versions)
-        ∙ sym (all-versions b (λ v. not (has-value (v .contents))) l r)
-        ∙ ap every (upto-same count (λ i. not (has-value (version-at b i .contents))) (λ i. eqb (field b (41 + 32 * i) 1) 255) (λ i h. said-deleted b i))
+gone-tests b {count} e l r = record { hangs = ap₂ _&&_ (context-empty b e) (none-has-value b l r ∙ sym (and-true (every (upto count (λ i. eqb (field b (41 + 32 * i) 1) 255))))) }
 
 -- ---- a good record
 

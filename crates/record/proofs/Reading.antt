@@ -38,11 +38,14 @@ pub slot-dot : (b : List ℕ) (at : ℕ) → slot-at b at .dot ≡ dot (field b 
 unfolding decode-slot
 slot-dot b at i = dot (first-of-cut b at 32 1 (omega arith) i) (field-of-cut b at 32 4 4 (omega arith) i)
 
+-- a counter of a context that stands alone, in 32 bytes, and of a block's
+pub context-field : (s : List ℕ) (n : Controller) → Crew n → entry (decode-context s) n ≡ counter (field s (4 * (n .0 - 1)) 4)
+unfolding decode-context
+context-field s n c = upto-at 8 (λ i. counter (field s (4 * i) 4)) (counter 0) (n .0 - 1) (omega (arith, c .0, c .1))
+
 pub entry-field : (b : List ℕ) (n : Controller) → Crew n → entry (decode-point form-1 b .object .context) n ≡ counter (field b (8 + 4 * (n .0 - 1)) 4)
-unfolding decode-point decode-context
-entry-field b n c =
-    upto-at 8 (λ i. counter (field (cut b 8 32) (4 * i) 4)) (counter 0) (n .0 - 1) (omega (arith, c .0, c .1))
-    ∙ ap counter (field-of-cut b 8 32 (4 * (n .0 - 1)) 4 (omega (arith, c .0, c .1)))
+unfolding decode-point
+entry-field b n c = context-field (cut b 8 32) n c ∙ ap counter (field-of-cut b 8 32 (4 * (n .0 - 1)) 4 (omega (arith, c .0, c .1)))
 
 -- the versions, where there is room for as many as are said
 pub versions-are : (b : List ℕ) → field b 5 1 ≤ 8 → decode-point form-1 b .object .versions ≡ upto (field b 5 1) (version-at b)

@@ -12,7 +12,6 @@ ghost use lib.ListN.{length};
 ghost use lib.Dec.{eqb};
 ghost use Rattle.numbers.specs.Words.{same-list, every, all?};
 ghost use Rattle.numbers.specs.Numbers.{controller, is-controller, Crew};
-ghost use Rattle.numbers.specs.Dot.{dot-before};
 ghost use Rattle.numbers.specs.Key.{is-key};
 ghost use Rattle.block.specs.Fields.{cut, field, upto};
 ghost use Rattle.meaning.specs.CrewTable.{holds};
@@ -208,25 +207,6 @@ fn each_formed(b: &[u8], count: usize, table: &[u8], job: u8) -> bool
     true
 }
 
-// "ascending by controller and counter"
-fn dot_before(a: Dot, b: Dot) -> bool
-    ensures { λ r. ⌜ r ≡ dot-before a b ⌝ }
-{
-    let n = a.who;
-    let m = b.who;
-    let first = n.0;
-    let second = m.0;
-    if first < second {
-        return true;
-    }
-    if second < first {
-        return false;
-    }
-    let c = a.count;
-    let d = b.count;
-    c.0 < d.0
-}
-
 // "versions .. ascending by dot": each comes before the next.
 fn versions_ascend(b: &[u8], count: usize) -> bool
     requires { ⌜ (length (now b) ≡ 512) × (count ≤ 8) ⌝ }
@@ -234,7 +214,7 @@ fn versions_ascend(b: &[u8], count: usize) -> bool
 {
     let mut i: usize = 0;
     while i + 1 < count {
-        if !dot_before(version_dot(b, i), version_dot(b, i + 1)) {
+        if !version_dot(b, i).before(version_dot(b, i + 1)) {
             return false;
         }
         i += 1;
@@ -359,7 +339,8 @@ pub fn all_known(b: &[u8], rows: &[u8]) -> bool
     true
 }
 
-fn all_deleted(b: &[u8], count: usize) -> bool
+// No version has a value: "length (255 = deleted)".
+pub fn all_deleted(b: &[u8], count: usize) -> bool
     requires { ⌜ (length (now b) ≡ 512) × (count ≤ 8) ⌝ }
     ensures { λ r. ⌜ r ≡ every (upto count (λ i. eqb (field (now (b .entry)) (41 + 32 * i) 1) 255)) ⌝ }
 {

@@ -50,8 +50,8 @@ returns c =
     (sym (c .before .entry-good .ensures ∙ ap (entry-good (a .mine) (a .own) (now (a .table)) (decode-clock (now (a .rows)))) (λ j. record { dot = c .before .before .before .entry-dot .ensures j; key = c .before .before .entry-key .ensures j })) ∙ not-true _ (c .if1 .taken))
     ∙ ap (dots-good (a .mine) (a .own) (now (a .table)) (decode-clock (now (a .rows)))) (sym (entries-are b (search needs)))
 
-dot-before-requires : tie.Need-dot-before-requires Inv-loop μ-loop
-dot-before-requires c κs = search needs
+before-requires : tie.Need-before-requires Inv-loop μ-loop
+before-requires c κs = search needs
 
 returns-2 : tie.Need-returns-2 Inv-loop μ-loop
 returns-2 c =
@@ -61,7 +61,7 @@ returns-2 c =
     let d = entry b i .dot in
     let q = c .before .before .before .before .before .before .before .loop .inv .not-after d
     (good-who (a .mine) (a .own) (now (a .table)) (decode-clock (now (a .rows))) (entry b i) (sym (c .before .before .before .entry-good .ensures ∙ ap (entry-good (a .mine) (a .own) (now (a .table)) (decode-clock (now (a .rows)))) (λ j. record { dot = c .before .before .before .before .before .entry-dot .ensures j; key = c .before .before .before .before .entry-key .ensures j })) ∙ not-false _ (c .before .before .if1 .left)))
-    (ap (dot-before (c .before .before .before .before .before .before .before .loop .last)) (sym (c .before .before .before .before .before .entry-dot .ensures)) ∙ sym (c .before .dot-before .ensures) ∙ not-true _ (c .if2 .taken)) in
+    (ap (dot-before (c .before .before .before .before .before .before .before .loop .last)) (sym (c .before .before .before .before .before .entry-dot .ensures)) ∙ sym (c .before .before2 .ensures) ∙ not-true _ (c .if2 .taken)) in
     pair-bad (a .mine) (a .own) (now (a .table)) (decode-clock (now (a .rows)))
     (field b 4 2) (entry b) (q .0) i (q .1) (omega (arith, c .before .before .before .before .before .before .before .before .entry-count .ensures, c .before .before .before .before .before .before .loop-test .taken))
     (q .2)
@@ -81,7 +81,7 @@ loop-again c =
     (omega (arith, c .before .before .before .before .before .before .before .before .entry-count .ensures, c .before .before .before .before .before .before .loop-test .taken))
     (c .before .before .before .before .before .entry-dot .ensures)
     (sym (c .before .before .before .entry-good .ensures ∙ ap (entry-good (a .mine) (a .own) (now (a .table)) (decode-clock (now (a .rows)))) (λ j. record { dot = c .before .before .before .before .before .entry-dot .ensures j; key = c .before .before .before .before .entry-key .ensures j })) ∙ not-false _ (c .before .before .if1 .left))
-    (sym (c .before .dot-before .ensures) ∙ not-false _ (c .if2 .left))
+    (sym (c .before .before2 .ensures) ∙ not-false _ (c .if2 .left))
 
 returns-3 : tie.Need-returns-3 Inv-loop μ-loop
 returns-3 c =
@@ -105,7 +105,7 @@ dots-good-spec =
     entry-key-requires
     entry-good-requires
     returns
-    dot-before-requires
+    before-requires
     returns-2
     add-i
     loop-less

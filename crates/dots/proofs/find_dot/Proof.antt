@@ -41,8 +41,8 @@ add-mid c = search needs
 entry-dot-requires : tie.Need-entry-dot-requires Inv-loop μ-loop
 entry-dot-requires c κs = search needs
 
-dot-before-requires : tie.Need-dot-before-requires Inv-loop μ-loop
-dot-before-requires c κs = search needs
+before-requires : tie.Need-before-requires Inv-loop μ-loop
+before-requires c κs = search needs
 
 add-low : tie.Need-add-low Inv-loop μ-loop
 add-low c = search needs
@@ -55,10 +55,10 @@ loop-again c =
     let a = c .before .before .before .before .before .before .before .args in
     let s = c .before .before .before .before .loop in
     upper-half dot-order (s .inv) (s .low + (s .high - s .low) / 2)
-    (omega arith) (omega arith) (ap (λ (x : Dot). dot-before x (a .d)) (sym (c .before .before .entry-dot .ensures)) ∙ sym (c .before .dot-before .ensures) ∙ c .if1 .taken)
+    (omega arith) (omega arith) (ap (λ (x : Dot). dot-before x (a .d)) (sym (c .before .before .entry-dot .ensures)) ∙ sym (c .before .before2 .ensures) ∙ c .if1 .taken)
 
-dot-before-requires-2 : tie.Need-dot-before-requires-2 Inv-loop μ-loop
-dot-before-requires-2 c κs = search needs
+before-requires-2 : tie.Need-before-requires-2 Inv-loop μ-loop
+before-requires-2 c κs = search needs
 
 returns : tie.Need-returns Inv-loop μ-loop
 returns c =
@@ -66,8 +66,8 @@ returns c =
     let s = c .before .before .before .before .before .before .loop in
     found-at (now (a .b)) (search needs) (a .d) (s .low + (s .high - s .low) / 2)
     (omega (arith, s .inv .within))
-    (c .before .before .before .before .entry-dot .ensures) (sym (c .before .before .before .dot-before .ensures) ∙ c .before .before .if1 .left)
-    (sym (c .before .dot-before2 .ensures) ∙ not-true _ (c .if2 .taken))
+    (c .before .before .before .before .entry-dot .ensures) (sym (c .before .before .before .before2 .ensures) ∙ c .before .before .if1 .left)
+    (sym (c .before .before3 .ensures) ∙ not-true _ (c .if2 .taken))
 
 loop-less-2 : tie.Need-loop-less-2 Inv-loop μ-loop
 loop-less-2 c = search needs
@@ -78,7 +78,7 @@ loop-again-2 c =
     let s = c .before .before .before .before .before .before .loop in
     lower-half dot-order (s .inv)
     (s .low + (s .high - s .low) / 2)
-    (omega arith) (omega arith) (ap (dot-before (a .d)) (sym (c .before .before .before .before .entry-dot .ensures)) ∙ sym (c .before .dot-before2 .ensures) ∙ not-false _ (c .if2 .left))
+    (omega arith) (omega arith) (ap (dot-before (a .d)) (sym (c .before .before .before .before .entry-dot .ensures)) ∙ sym (c .before .before3 .ensures) ∙ not-false _ (c .if2 .left))
 
 returns-2 : tie.Need-returns-2 Inv-loop μ-loop
 returns-2 c =
@@ -97,11 +97,11 @@ find-dot-spec =
     sub-mid
     add-mid
     entry-dot-requires
-    dot-before-requires
+    before-requires
     add-low
     loop-less
     loop-again
-    dot-before-requires-2
+    before-requires-2
     returns
     loop-less-2
     loop-again-2

@@ -31,11 +31,11 @@ add-version-dot c = omega arith
 version-dot-requires-2 : tie.Need-version-dot-requires-2 Inv-loop μ-loop
 version-dot-requires-2 c κs = (omega arith, omega arith)
 
-dot-before-requires : tie.Need-dot-before-requires Inv-loop μ-loop
-dot-before-requires c κs = tt
+before-requires : tie.Need-before-requires Inv-loop μ-loop
+before-requires c κs = tt
 
 returns : tie.Need-returns Inv-loop μ-loop
-returns c = one-fails (c .before .before .before .before .before .loop .inv) (omega arith) (said-no (c .before .dot-before .ensures ∙ (λ i. dot-before (c .before .before .before .version-dot .ensures i) (c .before .before .version-dot2 .ensures i))) (c .if1 .taken))
+returns c = one-fails (c .before .before .before .before .before .loop .inv) (omega arith) (said-no (c .before .before2 .ensures ∙ (λ i. dot-before (c .before .before .before .version-dot .ensures i) (c .before .before .version-dot2 .ensures i))) (c .if1 .taken))
 
 add-i : tie.Need-add-i Inv-loop μ-loop
 add-i c = omega arith
@@ -44,7 +44,7 @@ loop-less : tie.Need-loop-less Inv-loop μ-loop
 loop-less c = omega arith
 
 loop-again : tie.Need-loop-again Inv-loop μ-loop
-loop-again c = one-more (c .before .before .before .before .before .loop .inv) (omega arith) (said-yes (c .before .dot-before .ensures ∙ (λ i. dot-before (c .before .before .before .version-dot .ensures i) (c .before .before .version-dot2 .ensures i))) (c .if1 .left))
+loop-again c = one-more (c .before .before .before .before .before .loop .inv) (omega arith) (said-yes (c .before .before2 .ensures ∙ (λ i. dot-before (c .before .before .before .version-dot .ensures i) (c .before .before .version-dot2 .ensures i))) (c .if1 .left))
 
 returns-2 : tie.Need-returns-2 Inv-loop μ-loop
 returns-2 c = all-passed (c .before .loop .inv) (omega arith)
@@ -60,7 +60,7 @@ versions-ascend-spec =
     version-dot-requires
     add-version-dot
     version-dot-requires-2
-    dot-before-requires
+    before-requires
     returns
     add-i
     loop-less
