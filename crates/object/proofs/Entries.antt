@@ -8,6 +8,7 @@ use native.Mathlib.Omega.{arith}
 use lib.ListN.{getD}
 use lib.Dec.{leb, eqb}
 use borrow.Author.Tests.{le-leb, lt-leb, eq-eqb, ne-eqb, not-true, not-false}
+use Rattle.numbers.specs.declared.Controller.{Controller}
 use Rattle.numbers.specs.declared.Counter.{Counter}
 use Rattle.numbers.specs.declared.Dot.{Dot}
 use Rattle.numbers.specs.Words.{if_then_else_, map}
@@ -17,9 +18,9 @@ use Rattle.numbers.proofs.Lists.{all-in}
 use Rattle.numbers.proofs.Controllers.{crew-is}
 use Rattle.block.specs.Fields.{field}
 use Rattle.row.specs.declared.Row.{Row}
-use Rattle.meaning.specs.CrewTable.{holds}
-use Rattle.meaning.specs.Clock.{row}
-use Rattle.meaning.specs.Context.{entry, covers}
+use Rattle.meaning.specs.CrewTable.{CrewTable, holds}
+use Rattle.meaning.specs.Clock.{Clock, row}
+use Rattle.meaning.specs.Context.{Context, entry, covers}
 use Rattle.meaning.specs.Object.{has-value, Version}
 use Rattle.layout.specs.PointBlock.{form-1, decode-point}
 use Rattle.layout.specs.Clocks.{decode-clock}
@@ -41,7 +42,7 @@ module _ (e : Counter) (base : ℕ) where
   stripped-not h = rw (lt-leb (e .0) base h)
 
 -- the given context's entries are its counters
-given-entry : (l : List ℕ) (i : ℕ) → getD (map counter l) i (counter 0) ≡ counter (getD l i 0)
+pub given-entry : (l : List ℕ) (i : ℕ) → getD (map counter l) i (counter 0) ≡ counter (getD l i 0)
 given-entry [] i = refl
 given-entry (x ∷ l) zero = refl
 given-entry (x ∷ l) (suc i) = given-entry l i
@@ -52,16 +53,19 @@ given-covers-is l d = ap (λ (c : Counter). leb (d .count .0) (c .0)) (sym (give
 
 -- ---- what is read in the loops
 
--- the filled entry of controller i + 1, by its parts as they were read: the old entry, whether it holds the job, the row
+-- the filled entry of a controller, by its parts as they were read: the old entry, whether it holds the job, the row
+pub filled-parts : (t : CrewTable) (k : Clock) (c : Context) (job : ℕ) (n : Controller) {e : Counter} {h : Bool} {r : Row} → e ≡ entry c n → h ≡ holds t n job → r ≡ row k n
+    → (if h then counter (max (e .0) (r .base)) else e) ≡ (if holds t n job then counter (max (entry c n .0) (row k n .base)) else entry c n)
+filled-parts t k c job n p q s = λ i. if q i then counter (max (p i .0) (s i .base)) else p i
+
+-- that of controller i + 1 in a block, whose job was read too
 pub entry-is : (t rows b : List ℕ) (i : ℕ) {e : Counter} {h : Bool} {j : ℕ} {r : Row} → e ≡ entry (decode-point form-1 b .object .context) (controller (i + 1)) → h ≡ holds t (controller (i + 1)) j → j ≡ field b 4 1
     → r ≡ row (decode-clock rows) (controller (i + 1))
     → (if h then counter (max (e .0) (r .base)) else e)
     ≡ (if holds t (controller (i + 1)) (decode-point form-1 b .key .job) then counter (max (entry (decode-point form-1 b .object .context) (controller (i + 1)) .0) (row (decode-clock rows) (controller (i + 1)) .base))
     else entry (decode-point form-1 b .object .context) (controller (i + 1)))
-entry-is t rows b i {e} {h} {j} {r} p q s u =
-    ap₂ (λ (c : Counter) (x : Row). if h then counter (max (c .0) (x .base)) else c) p u
-    ∙ ap (λ (g : Bool). if g then counter (max (entry (decode-point form-1 b .object .context) (controller (i + 1)) .0) (row (decode-clock rows) (controller (i + 1)) .base)) else entry (decode-point form-1 b .object .context) (controller (i + 1)))
-    (q ∙ ap (holds t (controller (i + 1))) (s ∙ job))
+entry-is t rows b i p q s u =
+    filled-parts t (decode-clock rows) (decode-point form-1 b .object .context) (decode-point form-1 b .key .job) (controller (i + 1)) p (q ∙ ap (holds t (controller (i + 1))) (s ∙ job)) u
   where
     job : field b 4 1 ≡ decode-point form-1 b .key .job
     job = unfold decode-point in refl

@@ -1,3 +1,6 @@
 pub mod Sweeping
 pub mod Dropping
 pub mod Entries
+pub mod Counting
+pub mod Going
+pub mod Given

@@ -6,13 +6,14 @@ ghost use mathlib.Core.Path.{_≡_};
 ghost use mathlib.Core.Bool.{true, not};
 ghost use Prim.Native.Nat.{_≤_, _<_, max};
 ghost use lib.ListN.{length};
-ghost use lib.Dec.{leb};
-ghost use Rattle.numbers.specs.Words.{if_then_else_, keep, map};
-ghost use Rattle.numbers.specs.Numbers.{counter, Crew};
+ghost use lib.Dec.{leb, ltb};
+ghost use Rattle.numbers.specs.Words.{if_then_else_, keep, map, some?};
+ghost use Rattle.numbers.specs.Numbers.{counter, controllers, Crew};
+ghost use Rattle.block.specs.Fields.{field};
 ghost use Rattle.block.specs.Block.{Laid};
-ghost use Rattle.meaning.specs.Context.{covers};
-ghost use Rattle.meaning.specs.Object.{has-value, fill, strip};
-ghost use Rattle.layout.specs.PointBlock.{form-1, decode-point};
+ghost use Rattle.meaning.specs.Context.{entry, is-empty, covers, fill-context, strip-context};
+ghost use Rattle.meaning.specs.Object.{has-value, fill, strip, gone};
+ghost use Rattle.layout.specs.PointBlock.{form-1, decode-context, decode-point};
 ghost use Rattle.layout.specs.Clocks.{decode-clock};
 ghost use Rattle.record.specs.Crewed.{crewed};
 ghost use Rattle.record_edits.specs.Written.{lay-point, point-block, with-object, with-versions};
@@ -93,6 +94,23 @@ pub fn given_covers(context: &[u32], d: Dot) -> bool
     d.count.0 <= context[(who - 1) as usize]
 }
 
+// "drop the versions that the given context covers": how many stay.
+pub fn staying(b: &[u8], context: &[u32]) -> usize
+    requires { ⌜ (length (now b) ≡ 512) × (field (now b) 5 1 ≤ 8) × (length (now context) ≡ 8) × (crewed (decode-point form-1 (now b) .object .versions) ≡ true) ⌝ }
+    ensures { λ r. ⌜ r ≡ length (keep (λ v. not (covers (map counter (now (context .entry))) (v .dot))) (decode-point form-1 (now (b .entry)) .object .versions)) ⌝ }
+{
+    let count = record::version_count(b) as usize;
+    let mut stay: usize = 0;
+    let mut i: usize = 0;
+    while i < count {
+        if !given_covers(context, record::version_dot(b, i)) {
+            stay += 1;
+        }
+        i += 1;
+    }
+    stay
+}
+
 // "drop the versions that the given context covers"
 pub fn drop_covered(b: &mut [u8], context: &[u32])
     requires { ⌜ (length (now b) ≡ 512) × Laid lay-point point-block (now b) × (length (now context) ≡ 8) × (crewed (decode-point form-1 (now b) .object .versions) ≡ true) ⌝ }
@@ -105,4 +123,54 @@ pub fn drop_covered(b: &mut [u8], context: &[u32])
             record_edits::remove_version(b, i);
         }
     }
+}
+
+// "Strip sets to 0 each entry not above its base": no entry would be left.
+fn strips_to_none(b: &[u8], rows: &[u8]) -> bool
+    requires { ⌜ (length (now b) ≡ 512) × (length (now rows) ≡ 96) ⌝ }
+    ensures { λ r. ⌜ r ≡ is-empty (strip-context (decode-clock (now (rows .entry))) (decode-point form-1 (now (b .entry)) .object .context)) ⌝ }
+{
+    let mut i: u8 = 0;
+    while i < 8 {
+        let n = Controller(i + 1);
+        let e = record::context_entry(b, n);
+        let r = parts::row_at(rows, n);
+        if r.base < e.0 {
+            return false;
+        }
+        i += 1;
+    }
+    true
+}
+
+// "A record goes when its stripped context is empty and no version has a value": whether it would, stripped by these rows. Nothing is written,
+// so that a step can be judged before it is made.
+pub fn goes(b: &[u8], rows: &[u8]) -> bool
+    requires { ⌜ (length (now b) ≡ 512) × (field (now b) 5 1 ≤ 8) × (length (now rows) ≡ 96) ⌝ }
+    ensures { λ r. ⌜ r ≡ gone (strip (decode-clock (now (rows .entry))) (decode-point form-1 (now (b .entry)) .object)) ⌝ }
+{
+    if !strips_to_none(b, rows) {
+        return false;
+    }
+    record::all_deleted(b, record::version_count(b) as usize)
+}
+
+// "given context above the present reading's in any entry": the reading's context is the stored one, of 32 bytes, filled.
+pub fn ahead(stored: &[u8], job: u8, table: &[u8], rows: &[u8], context: &[u32]) -> bool
+    requires { ⌜ (length (now stored) ≡ 32) × (length (now table) ≡ 8) × (length (now rows) ≡ 96) × (length (now context) ≡ 8) ⌝ }
+    ensures { λ r. ⌜ r ≡ some? (λ n. ltb (entry (fill-context (now (table .entry)) job (decode-clock (now (rows .entry))) (decode-context (now (stored .entry)))) n .0) (entry (map counter (now (context .entry))) n .0)) controllers ⌝ }
+{
+    let mut i: u8 = 0;
+    while i < 8 {
+        let n = Controller(i + 1);
+        let at = i as usize;
+        let e = Counter(block::u32_at(stored, 4 * at));
+        let r = parts::row_at(rows, n);
+        let present = filled_entry(e, parts::holds(table, n, job), r.base);
+        if present.0 < context[at] {
+            return true;
+        }
+        i += 1;
+    }
+    false
 }
