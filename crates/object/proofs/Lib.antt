@@ -4,3 +4,4 @@ pub mod Entries
 pub mod Counting
 pub mod Going
 pub mod Given
+pub mod VersionPlaces

@@ -1,4 +1,5 @@
 // Fill, strip, and what goes of a point's versions, in one point block of the lent bytes. The block's check is made after the last of them.
+use dots::Found;
 use numbers::Controller;
 use numbers::Counter;
 use numbers::Dot;
@@ -7,15 +8,16 @@ ghost use mathlib.Core.Bool.{true, not};
 ghost use Prim.Native.Nat.{_≤_, _<_, max};
 ghost use lib.ListN.{length};
 ghost use lib.Dec.{leb, ltb};
-ghost use Rattle.numbers.specs.Words.{if_then_else_, keep, map, some?};
+ghost use Rattle.numbers.specs.Words.{if_then_else_, keep, map, some?, ascends?};
 ghost use Rattle.numbers.specs.Numbers.{counter, controllers, Crew};
 ghost use Rattle.block.specs.Fields.{field};
 ghost use Rattle.block.specs.Block.{Laid};
 ghost use Rattle.meaning.specs.Context.{entry, is-empty, covers, fill-context, strip-context};
-ghost use Rattle.meaning.specs.Object.{has-value, fill, strip, gone};
+ghost use Rattle.meaning.specs.Object.{version-before, has-value, fill, strip, gone};
 ghost use Rattle.layout.specs.PointBlock.{form-1, decode-context, decode-point};
 ghost use Rattle.layout.specs.Clocks.{decode-clock};
 ghost use Rattle.record.specs.Crewed.{crewed};
+ghost use Rattle.object.specs.Versions.{Version-in};
 ghost use Rattle.record_edits.specs.Written.{lay-point, point-block, with-object, with-versions};
 
 fn filled_entry(e: Counter, holder: bool, base: u32) -> Counter
@@ -173,4 +175,25 @@ pub fn ahead(stored: &[u8], job: u8, table: &[u8], rows: &[u8], context: &[u32])
         i += 1;
     }
     false
+}
+
+// Where the version of this dot stands, or the place before which it would stand: "ascending by dot". They are at most eight, so each is
+// looked at in turn.
+pub fn find_version(b: &[u8], d: Dot) -> Found
+    requires { ⌜ (length (now b) ≡ 512) × (field (now b) 5 1 ≤ 8) × (ascends? version-before (decode-point form-1 (now b) .object .versions) ≡ true) ⌝ }
+    ensures { λ r. ⌜ Version-in (decode-point form-1 (now (b .entry)) .object .versions) d r ⌝ }
+{
+    let count = record::version_count(b) as usize;
+    let mut i: usize = 0;
+    while i < count {
+        let v = record::version_dot(b, i);
+        if d.before(v) {
+            return Found::Before(i);
+        }
+        if !v.before(d) {
+            return Found::At(i);
+        }
+        i += 1;
+    }
+    Found::Before(i)
 }
