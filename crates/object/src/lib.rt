@@ -8,13 +8,13 @@ ghost use mathlib.Core.Bool.{true, not};
 ghost use Prim.Native.Nat.{_≤_, _<_, max};
 ghost use lib.ListN.{length};
 ghost use lib.Dec.{leb, ltb};
-ghost use Rattle.numbers.specs.Words.{if_then_else_, keep, map, some?, ascends?};
+ghost use Rattle.numbers.specs.Words.{if_then_else_, keep, map, some?, ascends?, place};
 ghost use Rattle.numbers.specs.Numbers.{counter, controllers, Crew};
 ghost use Rattle.block.specs.Fields.{field};
 ghost use Rattle.block.specs.Block.{Laid};
 ghost use Rattle.meaning.specs.Context.{entry, is-empty, covers, fill-context, strip-context};
 ghost use Rattle.meaning.specs.Object.{version-before, has-value, fill, strip, gone};
-ghost use Rattle.layout.specs.PointBlock.{form-1, decode-context, decode-point};
+ghost use Rattle.layout.specs.PointBlock.{form-1, encode-slot, decode-slot, decode-context, decode-point};
 ghost use Rattle.layout.specs.Clocks.{decode-clock};
 ghost use Rattle.record.specs.Crewed.{crewed};
 ghost use Rattle.object.specs.Versions.{Version-in};
@@ -196,4 +196,31 @@ pub fn find_version(b: &[u8], d: Dot) -> Found
         i += 1;
     }
     Found::Before(i)
+}
+
+// A slot alone: "controller, length (255 = deleted), two zero bytes, counter (4)".
+fn slot_dot(slot: &[u8]) -> Dot
+    requires { ⌜ length (now slot) ≡ 32 ⌝ }
+    ensures { λ r. ⌜ r ≡ decode-slot form-1 (now (slot .entry)) .dot ⌝ }
+{
+    Dot {
+        who: Controller(block::u8_at(slot, 0)),
+        count: Counter(block::u32_at(slot, 4)),
+    }
+}
+
+// A version at its place among the others, "ascending by dot". One of the same dot goes.
+pub fn put_version(b: &mut [u8], slot: &[u8])
+    requires { ⌜ (length (now b) ≡ 512) × Laid lay-point point-block (now b) × (ascends? version-before (decode-point form-1 (now b) .object .versions) ≡ true) × (length (decode-point form-1 (now b) .object .versions) < 8)
+        × (length (now slot) ≡ 32) × (encode-slot form-1 (decode-slot form-1 (now slot)) ≡ now slot) ⌝ }
+    ensures { λ _. ⌜ (point-block (now (b .exit)) ≡ with-versions (point-block (now (b .entry))) (place version-before (decode-slot form-1 (now (slot .entry))) (decode-point form-1 (now (b .entry)) .object .versions)))
+        × Laid lay-point point-block (now (b .exit)) ⌝ }
+{
+    match find_version(b, slot_dot(slot)) {
+        Found::At(i) => {
+            record_edits::remove_version(b, i);
+            record_edits::insert_version(b, i, slot);
+        }
+        Found::Before(i) => record_edits::insert_version(b, i, slot),
+    }
 }
