@@ -1,5 +1,2 @@
 pub mod Stripped
 pub mod Pass
-pub mod ClockAfter
-pub mod ListsAfter
-pub mod Judging

@@ -27,10 +27,10 @@ use Rattle.meaning.specs.OwnSteps.{next-dot, written}
 use Rattle.laws.proofs.Goodness.{Good}
 use Rattle.laws.proofs.Local.{LocalFacts, local-facts}
 use Rattle.laws.proofs.Writing.{own-known}
-use Rattle.store.proofs.ClockAfter.{row-other, row-own}
+use Rattle.writing.proofs.ClockAfter.{row-other, row-own}
 
 -- where none ties, one more stands there
-place-one-more : {A : Type 0} (before : A → A → Bool) (x : A) (ys : List A) → ((y : A) → y ∈ ys → before y x ≡ false → before x y ≡ false → ⊥) → length (place before x ys) ≡ length ys + 1
+pub place-one-more : {A : Type 0} (before : A → A → Bool) (x : A) (ys : List A) → ((y : A) → y ∈ ys → before y x ≡ false → before x y ≡ false → ⊥) → length (place before x ys) ≡ length ys + 1
 place-one-more before x [] h = refl
 place-one-more before x (y ∷ ys) h =
     by-test (before y x)

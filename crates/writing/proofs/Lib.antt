@@ -1,0 +1,5 @@
+pub mod ClockAfter
+pub mod ListsAfter
+pub mod Judging
+pub mod Going
+pub mod PutDown
