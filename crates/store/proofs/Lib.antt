@@ -1,2 +1,3 @@
 pub mod Stripped
 pub mod Pass
+pub mod Recorded

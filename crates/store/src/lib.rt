@@ -3,13 +3,26 @@ ghost use mathlib.Core.Path.{_≡_};
 ghost use Prim.Native.Nat.{_≤_, _<_};
 ghost use lib.ListN.{length, getD};
 ghost use Rattle.block.specs.Fields.{put-at};
+ghost use Rattle.block.specs.Block.{Laid};
 ghost use Rattle.meaning.specs.Object.{strip, gone};
 ghost use Rattle.meaning.specs.Settle.{stripped};
 ghost use Rattle.layout.specs.Clocks.{decode-clock};
+ghost use Rattle.layout.specs.PointBlock.{form-1, decode-stored};
 ghost use Rattle.layout.specs.Image.{image-length, decode};
+ghost use Rattle.record_edits.specs.Written.{lay-point, point-block};
 ghost use Rattle.image.specs.Places.{no-point};
 ghost use Rattle.image_edits.specs.Edits.{Canonical, with-points};
 ghost use Rattle.store.specs.Restored.{restored};
+
+// The i-th record is the point of the block b.
+pub fn write_record(image: &mut [u8], i: usize, b: &[u8])
+    requires { ⌜ (length (now image) ≡ image-length) × Canonical (now image) × (i < length (decode (now image) .points)) × (length (now b) ≡ 512) × Laid lay-point point-block (now b) ⌝ }
+    ensures { λ _. ⌜ (decode (now (image .exit)) ≡ with-points (decode (now (image .entry))) (put-at (decode (now (image .entry)) .points) i (decode-stored form-1 (now (b .entry))))) × Canonical (now (image .exit)) ⌝ }
+{
+    let at = 512 * (3 + i);
+    block::copy_in(image, at, b);
+    record_edits::renumber(&mut image[at..at + 512], (3 + i) as u16);
+}
 
 // The i-th record is stripped by these rows.
 pub fn strip_record(image: &mut [u8], i: usize, rows: &[u8])
