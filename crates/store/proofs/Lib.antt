@@ -1,3 +1,4 @@
 pub mod Stripped
 pub mod Pass
 pub mod Recorded
+pub mod Resulting

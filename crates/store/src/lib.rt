@@ -2,7 +2,7 @@
 ghost use mathlib.Core.Path.{_≡_};
 ghost use Prim.Native.Nat.{_≤_, _<_};
 ghost use lib.ListN.{length, getD};
-ghost use Rattle.block.specs.Fields.{put-at};
+ghost use Rattle.block.specs.Fields.{put-at, insert-at};
 ghost use Rattle.block.specs.Block.{Laid};
 ghost use Rattle.meaning.specs.Object.{strip, gone};
 ghost use Rattle.meaning.specs.Settle.{stripped};
@@ -49,4 +49,25 @@ pub fn strip_at(image: &mut [u8], count: usize, i: usize, rows: &[u8]) -> bool
     }
     image_edits::close_place(image, count, i);
     true
+}
+
+// The point of b is stored already, at i: it is written there, stripped, and goes where nothing needs it any more.
+fn put_stored(image: &mut [u8], count: usize, i: usize, b: &[u8], rows: &[u8])
+    requires { ⌜ (length (now image) ≡ image-length) × Canonical (now image) × (count ≡ length (decode (now image) .points)) × (i < count) × (length (now b) ≡ 512) × Laid lay-point point-block (now b) × (length (now rows) ≡ 96) ⌝ }
+    ensures { λ _. ⌜ (decode (now (image .exit)) ≡ with-points (decode (now (image .entry))) (restored (decode-clock (now (rows .entry))) (put-at (decode (now (image .entry)) .points) i (decode-stored form-1 (now (b .entry)))) i))
+        × Canonical (now (image .exit)) ⌝ }
+{
+    write_record(image, i, b);
+    strip_at(image, count, i, rows);
+}
+
+// The point of b has no record, and gets one before the i-th, stripped.
+fn put_new(image: &mut [u8], count: usize, i: usize, b: &[u8], rows: &[u8])
+    requires { ⌜ (length (now image) ≡ image-length) × Canonical (now image) × (count ≡ length (decode (now image) .points)) × (i ≤ count) × (count < 64) × (length (now b) ≡ 512) × Laid lay-point point-block (now b) × (length (now rows) ≡ 96) ⌝ }
+    ensures { λ _. ⌜ (decode (now (image .exit)) ≡ with-points (decode (now (image .entry))) (insert-at (decode (now (image .entry)) .points) i (stripped (decode-clock (now (rows .entry))) (decode-stored form-1 (now (b .entry))))))
+        × Canonical (now (image .exit)) ⌝ }
+{
+    image_edits::open_place(image, count, i, record::key_of(b));
+    write_record(image, i, b);
+    strip_record(image, i, rows);
 }
