@@ -8,33 +8,27 @@ use lib.Dec.{leb}
 use borrow.Author.Tests.{eq-eqb, ne-eqb, le-leb, lt-leb}
 use Rattle.numbers.specs.declared.Controller.{Controller}
 use Rattle.numbers.specs.declared.Key.{Key}
-use Rattle.numbers.specs.Words.{keep, ascends?}
-use Rattle.numbers.specs.Numbers.{is-job, is-point, Crew}
+use Rattle.numbers.specs.Words.{keep}
+use Rattle.numbers.specs.Numbers.{is-job, is-point}
 use Rattle.numbers.specs.Key.{key, is-key}
 use Rattle.refusal.specs.declared.Verdict.the-variants.{Accepted}
 use Rattle.refusal.specs.declared.Refusal.the-variants.{WrongLength, ImageNotGood, OutOfRange}
 use Rattle.refusal.specs.Refusal.{Answer, refused, accepted, refuse_when_else_, _>>=_}
 use Rattle.block.specs.Fields.{cut}
-use Rattle.block.proofs.Arrays.{upto-length}
 use Rattle.block.specs.Check.{seal}
 use Rattle.block.specs.Block.{resealed, Laid}
 use Rattle.meaning.specs.CrewTable.{CrewTable, holds}
 use Rattle.meaning.specs.Clock.{Clock}
 use Rattle.meaning.specs.Object.{has-value, fill}
-use Rattle.meaning.specs.State.{State, stored-before, look-up, local}
+use Rattle.meaning.specs.State.{State, look-up, local}
 use Rattle.meaning.specs.OwnSteps.{ours, shown, read}
-use Rattle.laws.proofs.Goodness.{Good, good-facts}
 use Rattle.layout.specs.Clocks.{decode-clock}
 use Rattle.layout.specs.PointBlock.{form-1, decode-point}
-use Rattle.layout.specs.Image.{image-length, Head, decode-head, encode, decode, goodImage}
+use Rattle.layout.specs.Image.{image-length, decode-head, decode, goodImage}
 use Rattle.layout.specs.Messages.{encode-reading}
 use Rattle.layout.specs.Calls.{Left, afterwards, one-block, on-image, read-call}
-use Rattle.layout.proofs.CallsGood.{good-image}
 use Rattle.record_edits.specs.Written.{Written, lay-point, point-block, with-object, with-versions}
-use Rattle.image.specs.Parts.{stored-count}
-use Rattle.image.specs.Apart.{point-at}
-use Rattle.image.proofs.Counted.{points-are}
-use Rattle.image.proofs.Whole.{table-is, clock-is, head-is}
+use Rattle.store.proofs.Lent.{table-part, clock-part, own-part}
 use Rattle.sqimrutta.proofs.Ladder.{leaves, wrong-image, wrong-other, not-good, goes-on}
 
 -- ---- case by case
@@ -92,25 +86,6 @@ module _ (s : State) (k : Key) where
   pub by-table : k .job ≤ 7 → 1 ≤ k .point .0 → k .point .0 ≤ 65535 → {r : Bool} → r ≡ holds (s .table) (s .own) (k .job) → r ≡ ours s k
   by-table j h l e = e ∙ sym (key-test ∙ rw (le-leb (k .job) 7 j, le-leb 1 (k .point .0) h, le-leb (k .point .0) 65535 l))
 
--- ---- the parts of a good image
-
-module _ (img : List ℕ) (size : length img ≡ image-length) where
-  pub table-part : cut img 8 8 ≡ decode img .table
-  table-part = sym (ap (λ (h : Head). h .table) (head-is img size) ∙ table-is img size)
-
-  pub clock-part : decode-clock (cut img 16 96) ≡ decode img .clock
-  clock-part = sym (ap (λ (h : Head). h .clock) (head-is img size) ∙ clock-is img size)
-
-  pub own-part : decode-head (cut img 0 512) .own ≡ decode img .own
-  own-part = sym (ap (λ (h : Head). h .own) (head-is img size))
-
-module _ (img : List ℕ) (good : goodImage img ≡ true) where
-  pub good-now : Good (decode img)
-  good-now = good-facts (decode img) (good-image img good .state)
-
-  pub own-is-crew : Crew (decode img .own)
-  own-is-crew = good-now .own-crew
-
 -- ---- the reading
 
 -- fetched, filled, its deletions dropped, sealed
@@ -125,17 +100,6 @@ reading-is s k b1 b2 b3 x p1 p2 p3 e = e ∙ p3 .1 ∙ ap lay-point (p3 .0 ∙ a
     filled : with-object (point-block b1) (fill (s .table) (decode-point form-1 b1 .key .job) (s .clock) (decode-point form-1 b1 .object))
         ≡ record { kind = 7; position = 0; point = record { sender = s .own; key = k; object = fill (s .table) (k .job) (s .clock) (look-up k (s .points)) } }
     filled = ap (λ (w : Written). with-object w (fill (s .table) (w .point .key .job) (s .clock) (w .point .object))) p1
-
--- what fetch asks for, of a good image
-module _ (img : List ℕ) (good : goodImage img ≡ true) where
-  pub counted : (n : ℕ) → n ≡ stored-count img → n ≡ length (decode img .points)
-  counted n e = e ∙ sym (ap length (points-are img) ∙ upto-length (stored-count img) (point-at img))
-
-  pub good-ascends : ascends? stored-before (decode img .points) ≡ true
-  good-ascends = good-now img good .points-asc
-
-  pub good-canonical : encode (decode img) ≡ img
-  good-canonical = good-image img good .encoded
 
 -- the same with the parts that were lent
 pub reading-lent : (img : List ℕ) (size : length img ≡ image-length) (k : Key) (o : Controller) (b1 b2 b3 x : List ℕ) → o ≡ decode-head (cut img 0 512) .own

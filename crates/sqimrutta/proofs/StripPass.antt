@@ -1,29 +1,27 @@
 -- The strip pass, record by record, and its definition case by case. Assumes nothing.
-use Prim.Native.Nat.{ℕ, suc, _+_, _-_, _≤_, _<_}
+use Prim.Native.Nat.{ℕ, suc, _-_, _≤_, _<_}
 use mathlib.Core.Path.{_≡_, refl, ap, ap₂, sym, _∙_}
 use mathlib.Core.Bool.{Bool, true, false}
-use mathlib.Core.List.{List, [], _∷_, _++_, append-nil}
+use mathlib.Core.List.{List, [], _∷_}
 use native.Mathlib.Omega.{arith}
-use lib.ListN.{length, take, drop, getD, length-append, length-take, length-drop, drop-of-length-le}
+use lib.ListN.{length, take, drop, getD, length-append, length-take, length-drop}
 use Rattle.numbers.specs.Words.{if_then_else_, ascends?}
 use Rattle.refusal.specs.declared.Verdict.the-variants.{Accepted}
 use Rattle.refusal.specs.declared.Refusal.the-variants.{WrongLength, ImageNotGood}
 use Rattle.refusal.specs.Refusal.{Answer, refused, accepted}
-use Rattle.block.specs.Fields.{cut, splice, put-at, remove-at}
-use Rattle.block.proofs.Parts.{length-cut, splice-length}
+use Rattle.block.specs.Fields.{put-at, remove-at}
+use Rattle.block.proofs.Parts.{splice-length}
 use Rattle.meaning.specs.Clock.{Clock}
 use Rattle.meaning.specs.Object.{strip, gone}
 use Rattle.meaning.specs.State.{Stored, State, stored-before}
 use Rattle.meaning.specs.OwnSteps.{strip-pass}
 use Rattle.meaning.specs.Settle.{stripped}
-use Rattle.layout.specs.Clocks.{decode-clock}
 use Rattle.layout.specs.Image.{image-length, encode, decode, goodImage}
 use Rattle.layout.specs.Calls.{Left, afterwards, on-image, strip-pass-call}
 use Rattle.image.specs.Places.{no-point}
 use Rattle.image_edits.specs.Edits.{Canonical, with-points}
 use Rattle.store.specs.Restored.{restored}
 use Rattle.store.proofs.Pass.{kept, pass-is, from, from-none, from-more}
-use Rattle.sqimrutta.proofs.Reading.{clock-part}
 use Rattle.sqimrutta.proofs.Ladder.{leaves, wrong-image, not-good, goes-on}
 
 -- ---- record by record
@@ -127,14 +125,3 @@ module _ (img : List ℕ) where
     pub strip-passed : goodImage img ≡ true → strip-pass-call img ≡ record { verdict = Accepted; image = encode (strip-pass (decode img) .state); out = []; count = strip-pass (decode img) .count }
     unfolding afterwards
     strip-passed h = as-is (step (decode img)) (goes-on true img step size refl h)
-
--- ---- the rows in a buffer of their own
-
-pub rows-copied : (img : List ℕ) → length img ≡ image-length → (z x : List ℕ) → length z ≡ 96 → x ≡ splice z 0 (length (cut img 16 96)) (cut img 16 96) → (length x ≡ 96) × (decode-clock x ≡ decode img .clock)
-rows-copied img size z x e d = (ap length same ∙ long, ap decode-clock same ∙ clock-part img size)
-  where
-    long : length (cut img 16 96) ≡ 96
-    long = length-cut img 16 96 (omega arith)
-
-    same : x ≡ cut img 16 96
-    same = d ∙ ap (λ (n : ℕ). splice z 0 n (cut img 16 96)) long ∙ ap (λ (l : List ℕ). cut img 16 96 ++ l) (drop-of-length-le z {i = 96} (omega arith)) ∙ append-nil (cut img 16 96)

@@ -2,3 +2,4 @@ pub mod Stripped
 pub mod Pass
 pub mod Recorded
 pub mod Resulting
+pub mod Lent

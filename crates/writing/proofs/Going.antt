@@ -1,6 +1,6 @@
 -- Whether the record of a write or a delete goes: never with a value, and always where nothing was stored and nothing is said. Assumes nothing.
-use Prim.Native.Nat.{ℕ, _+_, _≤_, max}
-use mathlib.Core.Path.{_≡_, refl, ap, ap₂, sym, _∙_, subst}
+use Prim.Native.Nat.{_+_, _≤_}
+use mathlib.Core.Path.{_≡_, ap, ap₂, sym, _∙_, subst}
 use mathlib.Core.Logic.{⊎-elim}
 use mathlib.Core.Bool.{Bool, true, false, _&&_, not}
 use mathlib.Core.List.{List, [], _∷_}
@@ -15,11 +15,11 @@ use Rattle.numbers.specs.Numbers.{counter, same-controller, controllers, Crew}
 use Rattle.numbers.specs.Key.{same-key}
 use Rattle.numbers.proofs.Tests.{by-test, never, _∈_}
 use Rattle.numbers.proofs.Lists.{in-map, in-all, in-some, none-in, place-here}
-use Rattle.numbers.proofs.Controllers.{in-crew, same-controllers, controller-itself}
+use Rattle.numbers.proofs.Controllers.{in-crew, same-controllers}
 use Rattle.numbers.proofs.Dots.{key-itself}
 use Rattle.meaning.specs.CrewTable.{holds}
 use Rattle.meaning.specs.Clock.{Clock, row}
-use Rattle.meaning.specs.Context.{Context, entry, no-context, is-empty, covers, fill-context, strip-context}
+use Rattle.meaning.specs.Context.{Context, entry, is-empty, covers, strip-context}
 use Rattle.meaning.specs.Object.{Contents, has-value, Version, version-before, Object, no-object, fill, strip, gone}
 use Rattle.meaning.specs.State.{Stored, State, own-base, look-up, local}
 use Rattle.meaning.specs.Settle.{entered}

@@ -3,3 +3,4 @@ pub mod ListsAfter
 pub mod Judging
 pub mod Going
 pub mod PutDown
+pub mod After

@@ -1,5 +1,5 @@
 -- A write and a delete are refused by what `judged` says of the state before them, and are else what `settled` says. Assumes nothing.
-use Prim.Native.Nat.{ℕ, _+_, _≤_}
+use Prim.Native.Nat.{_+_, _≤_}
 use mathlib.Core.Path.{_≡_, refl, ap, sym, _∙_, subst}
 use mathlib.Core.Logic.{⊎-elim}
 use mathlib.Core.Bool.{Bool, true, false, _&&_, _||_, not}
@@ -9,20 +9,17 @@ use lib.ListN.{length}
 use lib.Dec.{leb, ltb}
 use borrow.Author.Tests.{leb-true, le-leb, ltb-true, lt-ltb, le-ltb}
 use Rattle.numbers.specs.declared.Key.{Key}
-use Rattle.numbers.specs.Words.{if_then_else_, keep, some?, place}
+use Rattle.numbers.specs.Words.{place}
 use Rattle.numbers.specs.Numbers.{last-counter}
 use Rattle.numbers.specs.Key.{same-key}
 use Rattle.numbers.proofs.Tests.{by-test, same-test, never, _∈_}
 use Rattle.numbers.proofs.Lists.{in-place, some-in, in-some, Tied}
 use Rattle.numbers.proofs.Orders.{Ascends, place-ascends, no-longer, keep-length}
 use Rattle.numbers.proofs.Dots.{same-keys, key-itself, keys-tied, tied-keys}
-use Rattle.refusal.specs.declared.Verdict.the-variants.{Accepted, Refused}
-use Rattle.refusal.specs.declared.Refusal.{Refusal}
 use Rattle.refusal.specs.declared.Refusal.the-variants.{ContextAhead, RowTooFar, TooManyVersions, TooManyPoints, OwnListFull, CountersUsedUp}
 use Rattle.refusal.specs.Refusal.{Answer, refused, accepted, refuse_when_else_, _>>=_}
-use Rattle.row.specs.Row.{fits}
 use Rattle.meaning.specs.CrewTable.{holds}
-use Rattle.meaning.specs.Clock.{Clock, every-row}
+use Rattle.meaning.specs.Clock.{Clock}
 use Rattle.meaning.specs.Context.{Context}
 use Rattle.meaning.specs.Object.{Contents, has-value, strip, gone}
 use Rattle.meaning.specs.State.{Stored, stored-before, State, own-base}
@@ -31,7 +28,7 @@ use Rattle.meaning.specs.Settle.{most-points, most-listed, entered, without, st
 use Rattle.meaning.specs.OwnSteps.{written, context-ahead, Done, put-down}
 use Rattle.laws.proofs.Goodness.{Good}
 use Rattle.laws.proofs.Putting.{stored-order}
-use Rattle.writing.specs.Judged.{has-record, staying, own-judged, judged, verdict-of}
+use Rattle.writing.specs.Judged.{has-record, staying, own-judged, judged}
 use Rattle.writing.proofs.Judging.{place-one-more, rows-fit, versions-after}
 use Rattle.writing.proofs.Going.{value-stays, deletion-goes}
 

@@ -8,7 +8,8 @@ use Rattle.numbers.specs.declared.Controller.{Controller}
 use Rattle.numbers.specs.Numbers.{Crew}
 use Rattle.meaning.specs.CrewTable.{CrewTable, holds}
 use Rattle.layout.specs.Image.{decode}
-use Rattle.sqimrutta.proofs.Reading.{not-a-job, not-a-point, by-table, table-part, own-part}
+use Rattle.store.proofs.Lent.{own-part, table-part}
+use Rattle.sqimrutta.proofs.Reading.{not-a-job, not-a-point, by-table}
 use borrow.Author.Needs.{needs}
 use Rattle.sqimrutta.proofs.is_ours.Statement.{statement}
 use Rattle.sqimrutta.proofs.is_ours.Tie as tie

@@ -5,7 +5,8 @@ use mathlib.Core.Path.{ap, sym, _∙_}
 use native.Mathlib.Omega.{arith}
 use borrow.Author.Tests.{not-true, not-false}
 use Rattle.layout.specs.Calls.{After}
-use Rattle.sqimrutta.proofs.Reading.{read-wrong-image, read-wrong-out, read-not-good, own-is-crew, read-not-ours, read-shown}
+use Rattle.store.proofs.Lent.{own-is-crew}
+use Rattle.sqimrutta.proofs.Reading.{read-wrong-image, read-wrong-out, read-not-good, read-not-ours, read-shown}
 use borrow.Author.Needs.{needs}
 use Rattle.sqimrutta.proofs.read.Statement.{statement}
 use Rattle.sqimrutta.proofs.read.Tie as tie

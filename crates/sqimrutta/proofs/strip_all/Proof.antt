@@ -10,7 +10,7 @@ use Rattle.layout.specs.Image.{decode}
 use Rattle.image.specs.Places.{no-point}
 use Rattle.image_edits.specs.Edits.{with-points}
 use Rattle.store.specs.Restored.{restored}
-use Rattle.sqimrutta.proofs.Reading.{counted, good-ascends, good-canonical, good-now}
+use Rattle.store.proofs.Lent.{counted, good-ascends, good-canonical, good-now}
 use Rattle.sqimrutta.proofs.StripPass.{Stripping, stripping-none, stripping-inside, stripping-more, went-one, went-none, stripped-image, stripped-count}
 use Rattle.sqimrutta.proofs.strip_all.Statement.{statement}
 use Rattle.sqimrutta.proofs.strip_all.Tie as tie

@@ -5,7 +5,8 @@ use mathlib.Core.Path.{ap, sym, _∙_}
 use native.Mathlib.Omega.{arith}
 use borrow.Author.Tests.{not-true, not-false}
 use Rattle.layout.specs.Calls.{After}
-use Rattle.sqimrutta.proofs.StripPass.{strip-wrong-image, strip-not-good, strip-passed, rows-copied}
+use Rattle.store.proofs.Lent.{rows-copied}
+use Rattle.sqimrutta.proofs.StripPass.{strip-wrong-image, strip-not-good, strip-passed}
 use borrow.Author.Needs.{needs}
 use Rattle.sqimrutta.proofs.strip_pass.Statement.{statement}
 use Rattle.sqimrutta.proofs.strip_pass.Tie as tie

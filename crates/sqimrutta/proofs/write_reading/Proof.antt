@@ -1,7 +1,8 @@
 -- `sqimrutta::write_reading` meets its contract. Fetched, filled, its deletions dropped, sealed (Reading). Assumes nothing.
 use Prim.Native.Nat.{_-_}
 use denote.Ref.{now}
-use Rattle.sqimrutta.proofs.Reading.{good-canonical, counted, good-ascends, reading-lent}
+use Rattle.store.proofs.Lent.{counted, good-ascends, good-canonical}
+use Rattle.sqimrutta.proofs.Reading.{reading-lent}
 use borrow.Author.Needs.{needs}
 use Rattle.sqimrutta.proofs.write_reading.Statement.{statement}
 use Rattle.sqimrutta.proofs.write_reading.Tie as tie
