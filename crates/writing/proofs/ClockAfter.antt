@@ -1,13 +1,11 @@
 -- The clock after a write or a delete: the own row counts one more, and every other row is as it was. Assumes nothing.
-use Prim.Native.Nat.{ℕ, _+_, _-_, _≤_}
+use Prim.Native.Nat.{_+_, _-_, _≤_}
 use mathlib.Core.Path.{_≡_, refl, ap, sym, _∙_, subst}
 use mathlib.Core.Logic.{_⊎_, inl, inr, ⊎-elim, ⊎-map}
-use mathlib.Core.Bool.{true, false, not}
+use mathlib.Core.Bool.{true, not}
 use mathlib.Core.List.{List, [], _∷_, List·Memᴰ·eq-of-singleton}
 use native.Mathlib.Omega.{arith}
-use lib.ListN.{length, getD}
-use lib.Dec.{ltb}
-use borrow.Author.Tests.{ltb-true, ltb-false, eqb-false}
+use borrow.Author.Tests.{eqb-false}
 use Rattle.numbers.specs.declared.Controller.{Controller}
 use Rattle.numbers.specs.declared.Counter.{Counter}
 use Rattle.numbers.specs.declared.Dot.{Dot}
@@ -18,8 +16,6 @@ use Rattle.numbers.proofs.Tests.{by-test, _∈_, here}
 use Rattle.numbers.proofs.Lists.{in-keep, in-place, place-here}
 use Rattle.numbers.proofs.Controllers.{same-controllers}
 use Rattle.block.specs.Fields.{put-at}
-use Rattle.block.proofs.Parts.{splice-length}
-use Rattle.block.proofs.Places.{place-below, place-above}
 use Rattle.row.specs.declared.Row.{Row}
 use Rattle.row.specs.Row.{none-seen, has}
 use Rattle.row.proofs.Members.{Clear, has-positive, low-has, whole-has, row-determined}
@@ -36,6 +32,7 @@ use Rattle.laws.proofs.Facts.{in-dots, dots-in}
 use Rattle.laws.proofs.Goodness.{Good}
 use Rattle.laws.proofs.Entering.{entered-row, entered-eight, counts, in-counts, counts-in, add-all-whole, same-clocks}
 use Rattle.laws.proofs.Local.{LocalFacts, local-facts}
+use Rattle.writing.proofs.OneEntry.{put-eight, put-here, put-elsewhere}
 
 module _ (s : State) (G : Good s) (k : Key) (b : Contents) (c : Context) (held : holds (s .table) (s .own) (k .job) ≡ true) where
   abbrev fresh : Version
@@ -123,30 +120,10 @@ module _ (s : State) (G : Good s) (k : Key) (b : Contents) (c : Context) (held :
   -- the own row counts the new dot, and no other row moves
   pub clock-after : entered (s .clock) (record { key = k; object = written s k b c } ∷ []) ≡ put-at (s .clock) (s .own .0 - 1) (record { base = own-base s + 1; bits = 0 })
   clock-after =
-      same-clocks (entered (s .clock) (result ∷ [])) (put-at (s .clock) (s .own .0 - 1) next) (entered-eight (s .clock) (result ∷ []) (G .clock-eight)) (size ∙ G .clock-eight)
+      same-clocks (entered (s .clock) (result ∷ [])) (put-at (s .clock) (s .own .0 - 1) next) (entered-eight (s .clock) (result ∷ []) (G .clock-eight)) (put-eight (s .clock) (G .clock-eight) (s .own) (G .own-crew) next none-seen)
       (λ n r. by-test (same-controller n (s .own))
-      (λ t. subst (λ (m : Controller). row (entered (s .clock) (result ∷ [])) m ≡ row (put-at (s .clock) (s .own .0 - 1) next) m) (sym (same-controllers n (s .own) t)) (row-own ∙ sym (Rattle.block.proofs.Places.place-here (s .clock) (s .own .0 - 1) none-seen (omega (arith, inside)) 1 next [])))
-      (λ t. row-other n r (λ e. never-same n t e) ∙ sym (elsewhere n r t)))
+      (λ t. subst (λ (m : Controller). row (entered (s .clock) (result ∷ [])) m ≡ row (put-at (s .clock) (s .own .0 - 1) next) m) (sym (same-controllers n (s .own) t)) (row-own ∙ sym (put-here (s .clock) (G .clock-eight) (s .own) (G .own-crew) next none-seen)))
+      (λ t. row-other n r (λ e. eqb-false (n .0) (s .own .0) t (ap (λ (m : Controller). m .0) e)) ∙ sym (put-elsewhere (s .clock) (G .clock-eight) (s .own) (G .own-crew) next none-seen n r t)))
     where
       next : Row
       next = record { base = own-base s + 1; bits = 0 }
-
-      inside : s .own .0 - 1 + 1 ≤ length (s .clock)
-      inside = omega (arith, G .own-crew .0, G .own-crew .1, G .clock-eight)
-
-      size : length (put-at (s .clock) (s .own .0 - 1) next) ≡ length (s .clock)
-      size = splice-length (s .clock) (s .own .0 - 1) 1 (next ∷ []) inside refl
-
-      never-same : (n : Controller) → same-controller n (s .own) ≡ false → n ≡ s .own → ⊥
-      never-same n t e = eqb-false (n .0) (s .own .0) t (ap (λ (m : Controller). m .0) e)
-
-      elsewhere : (n : Controller) → Crew n → same-controller n (s .own) ≡ false → row (put-at (s .clock) (s .own .0 - 1) next) n ≡ row (s .clock) n
-      elsewhere n r t =
-          by-test (ltb (n .0 - 1) (s .own .0 - 1)) (λ u. place-below (s .clock) (s .own .0 - 1) none-seen (omega (arith, inside)) 1 (next ∷ []) (n .0 - 1) (ltb-true (n .0 - 1) (s .own .0 - 1) u))
-          (λ u. place-above (s .clock) (s .own .0 - 1) none-seen (omega (arith, inside)) 1 (next ∷ []) (n .0 - 1) (above (ltb-false (n .0 - 1) (s .own .0 - 1) u)) ∙ ap (λ (j : ℕ). getD (s .clock) j none-seen) (back (ltb-false (n .0 - 1) (s .own .0 - 1) u)))
-        where
-          above : s .own .0 - 1 ≤ n .0 - 1 → s .own .0 - 1 + 1 ≤ n .0 - 1
-          above h = by-test (ltb (s .own .0 - 1) (n .0 - 1)) (λ u. omega (arith, ltb-true (s .own .0 - 1) (n .0 - 1) u)) (λ u. absurd (eqb-false (n .0) (s .own .0) t (omega (arith, ltb-false (s .own .0 - 1) (n .0 - 1) u, r .0, G .own-crew .0))))
-
-          back : s .own .0 - 1 ≤ n .0 - 1 → n .0 - 1 - 1 + 1 ≡ n .0 - 1
-          back h = omega (arith, above h)

@@ -1,6 +1,9 @@
+pub mod OneEntry
 pub mod ClockAfter
 pub mod ListsAfter
 pub mod Judging
 pub mod Going
 pub mod PutDown
 pub mod After
+pub mod Message
+pub mod Rows
