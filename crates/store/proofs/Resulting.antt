@@ -7,18 +7,24 @@ use native.Mathlib.Omega.{arith}
 use lib.ListN.{length, take, drop, getD, length-take, length-append, length-drop}
 use lib.Seq.{take-at, drop-at}
 use Rattle.numbers.specs.Words.{if_then_else_, ascends?, place}
-use Rattle.block.specs.Fields.{splice, put-at, insert-at, remove-at}
+use Rattle.numbers.specs.declared.Key.{Key}
+use Rattle.block.specs.Fields.{splice, put-at, insert-at, remove-at, upto}
+use Rattle.block.proofs.Numbers.{Bytes}
 use Rattle.block.proofs.Parts.{splice-length, splice-again}
 use Rattle.block.proofs.Places.{place-here}
 use Rattle.meaning.specs.Clock.{Clock}
 use Rattle.meaning.specs.Object.{strip, gone}
 use Rattle.meaning.specs.State.{Stored, State, stored-before}
-use Rattle.meaning.specs.Settle.{without, stripped, put}
-use Rattle.layout.specs.Image.{decode}
+use Rattle.meaning.specs.Settle.{most-points, without, stripped, put}
+use Rattle.layout.specs.PointBlock.{form-1, decode-point, decode-stored}
+use Rattle.layout.specs.Image.{image-length, decode}
+use Rattle.dots.specs.declared.Found.{Found}
 use Rattle.dots.specs.declared.Found.the-variants.{At, Before}
+use Rattle.image.specs.Apart.{point-at}
 use Rattle.image.specs.Places.{no-point, Point-in}
 use Rattle.image.proofs.Placing.{place-before, without-before, place-at, without-at}
 use Rattle.image_edits.specs.Edits.{Canonical, with-points}
+use Rattle.image_edits.proofs.Fetching.{points-listed}
 use Rattle.store.specs.Restored.{restored}
 
 -- one put in and then put anew is that one put in
@@ -91,3 +97,23 @@ module _ (k : Clock) (ps : List Stored) (r : Stored) where
     pub put-nothing : gone (strip k (r .object)) ≡ true → ps ≡ put k ps r
     unfolding put
     put-nothing g = sym (ap (λ (b : Bool). if b then without (r .key) ps else place stored-before (stripped k r) ps) g ∙ without-before (r .key) ps i new)
+
+    -- a place that is needed is there
+    pub place-left : gone (strip k (r .object)) ≡ false → length (put k ps r) ≤ most-points → length ps < most-points
+    place-left g few = omega (arith, few, new .0, ap length (put-where-new g), one-more)
+      where
+        one-more : length (insert-at ps i (stripped k r)) ≡ length ps + 1
+        one-more = simp (length-append, length-take, length-drop) (omega (arith, new .0))
+
+-- ---- what the search says of the block's point
+
+module _ (img : List ℕ) (small : Bytes img) (size : length img ≡ image-length) (canonical : Canonical img) (n : ℕ) (count : n ≡ length (decode img .points)) (b : List ℕ) (key : Key) (is : key ≡ decode-point form-1 b .key) (f : Found)
+    (found : Point-in (upto n (point-at img)) key f) where
+  pub result-found : (g : Found) → f ≡ g → Point-in (decode img .points) (decode-stored form-1 b .key) g
+  unfolding decode-stored
+  result-found g q =
+      subst (λ (x : Key). Point-in (decode img .points) x g) is (subst (Point-in (decode img .points) key) q (subst (λ (qs : List Stored). Point-in qs key f) (points-listed img small size canonical n count) found))
+
+pub same-gone : (k : Clock) (b : List ℕ) {g : Bool} → g ≡ gone (strip k (decode-point form-1 b .object)) → g ≡ gone (strip k (decode-stored form-1 b .object))
+unfolding decode-stored
+same-gone k b e = e

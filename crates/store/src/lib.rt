@@ -1,11 +1,15 @@
 // Records of an image put anew, from one canonical image to another.
+use dots::Found;
 ghost use mathlib.Core.Path.{_≡_};
+ghost use mathlib.Core.Bool.{true};
 ghost use Prim.Native.Nat.{_≤_, _<_};
 ghost use lib.ListN.{length, getD};
+ghost use Rattle.numbers.specs.Words.{ascends?};
 ghost use Rattle.block.specs.Fields.{put-at, insert-at};
 ghost use Rattle.block.specs.Block.{Laid};
 ghost use Rattle.meaning.specs.Object.{strip, gone};
-ghost use Rattle.meaning.specs.Settle.{stripped};
+ghost use Rattle.meaning.specs.State.{stored-before};
+ghost use Rattle.meaning.specs.Settle.{most-points, stripped, put};
 ghost use Rattle.layout.specs.Clocks.{decode-clock};
 ghost use Rattle.layout.specs.PointBlock.{form-1, decode-stored};
 ghost use Rattle.layout.specs.Image.{image-length, decode};
@@ -70,4 +74,21 @@ fn put_new(image: &mut [u8], count: usize, i: usize, b: &[u8], rows: &[u8])
     image_edits::open_place(image, count, i, record::key_of(b));
     write_record(image, i, b);
     strip_record(image, i, rows);
+}
+
+// The result that stands in b takes its record's place, stripped by these rows, or its record goes where nothing needs it. Where there is no
+// record and none is needed, nothing is written: there may be no place left.
+pub fn put_result(image: &mut [u8], count: usize, b: &[u8], rows: &[u8])
+    requires { ⌜ (length (now image) ≡ image-length) × Canonical (now image) × (count ≡ length (decode (now image) .points)) × (ascends? stored-before (decode (now image) .points) ≡ true) × (length (now b) ≡ 512) × Laid lay-point point-block (now b) × (length (now rows) ≡ 96)
+        × (length (put (decode-clock (now rows)) (decode (now image) .points) (decode-stored form-1 (now b))) ≤ most-points) ⌝ }
+    ensures { λ _. ⌜ (decode (now (image .exit)) ≡ with-points (decode (now (image .entry))) (put (decode-clock (now (rows .entry))) (decode (now (image .entry)) .points) (decode-stored form-1 (now (b .entry))))) × Canonical (now (image .exit)) ⌝ }
+{
+    match image::find_point(image, count, record::key_of(b)) {
+        Found::At(i) => put_stored(image, count, i, b, rows),
+        Found::Before(i) => {
+            if !object::goes(b, rows) {
+                put_new(image, count, i, b, rows);
+            }
+        }
+    }
 }
