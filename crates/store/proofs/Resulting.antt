@@ -105,14 +105,15 @@ module _ (k : Clock) (ps : List Stored) (r : Stored) where
         one-more : length (insert-at ps i (stripped k r)) ≡ length ps + 1
         one-more = simp (length-append, length-take, length-drop) (omega (arith, new .0))
 
--- ---- what the search says of the block's point
+-- ---- what the search says of the stored points
 
-module _ (img : List ℕ) (small : Bytes img) (size : length img ≡ image-length) (canonical : Canonical img) (n : ℕ) (count : n ≡ length (decode img .points)) (b : List ℕ) (key : Key) (is : key ≡ decode-point form-1 b .key) (f : Found)
-    (found : Point-in (upto n (point-at img)) key f) where
-  pub result-found : (g : Found) → f ≡ g → Point-in (decode img .points) (decode-stored form-1 b .key) g
+module _ (img : List ℕ) (small : Bytes img) (size : length img ≡ image-length) (canonical : Canonical img) (n : ℕ) (count : n ≡ length (decode img .points)) (key : Key) (f : Found) (found : Point-in (upto n (point-at img)) key f) where
+  pub found-is : (g : Found) → f ≡ g → Point-in (decode img .points) key g
+  found-is g q = subst (Point-in (decode img .points) key) q (subst (λ (qs : List Stored). Point-in qs key f) (points-listed img small size canonical n count) found)
+
+  pub result-found : (b : List ℕ) → key ≡ decode-point form-1 b .key → (g : Found) → f ≡ g → Point-in (decode img .points) (decode-stored form-1 b .key) g
   unfolding decode-stored
-  result-found g q =
-      subst (λ (x : Key). Point-in (decode img .points) x g) is (subst (Point-in (decode img .points) key) q (subst (λ (qs : List Stored). Point-in qs key f) (points-listed img small size canonical n count) found))
+  result-found b is g q = subst (λ (x : Key). Point-in (decode img .points) x g) is (found-is g q)
 
 pub same-gone : (k : Clock) (b : List ℕ) {g : Bool} → g ≡ gone (strip k (decode-point form-1 b .object)) → g ≡ gone (strip k (decode-stored form-1 b .object))
 unfolding decode-stored

@@ -78,7 +78,7 @@ module _ (img : List ℕ) (bytes : Bytes img) (size : length img ≡ image-lengt
   lent-is : lent ≡ encode-stored form-1 (3 + i) (getD (decode img .points) i no-point)
   lent-is = part-is img (512 * (3 + i)) 512 ∙ (unfold block-at in (canonical-blocks img bytes size canonical .stored i inside))
 
-  says : (point-block lent ≡ record { kind = 3; position = 3 + i; point = unsent (getD (decode img .points) i no-point) }) × Laid lay-point point-block lent
+  pub says : (point-block lent ≡ record { kind = 3; position = 3 + i; point = unsent (getD (decode img .points) i no-point) }) × Laid lay-point point-block lent
   says = stored-says (3 + i) (getD (decode img .points) i no-point) lent (omega (arith, few)) sized (ap length lent-is ∙ stored-length (3 + i) (getD (decode img .points) i no-point) sized) lent-is
 
   pub record-laid : Laid lay-point point-block (take (512 * (3 + i) + 512 - 512 * (3 + i)) (drop (512 * (3 + i)) img))

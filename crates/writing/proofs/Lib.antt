@@ -7,3 +7,4 @@ pub mod PutDown
 pub mod After
 pub mod Message
 pub mod Rows
+pub mod Judges

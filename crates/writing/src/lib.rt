@@ -1,17 +1,25 @@
 // A write and a delete: judged on the lent image, then made: the message, the clock, the list, the record.
+use dots::Found;
 use numbers::Counter;
 use numbers::Dot;
+use numbers::Key;
 use refusal::Refusal;
 use refusal::Verdict;
 ghost use mathlib.Core.Path.{_≡_};
-ghost use mathlib.Core.Bool.{true};
-ghost use Prim.Native.Nat.{_<_};
+ghost use mathlib.Core.Bool.{Bool, true, false, _&&_};
+ghost use Prim.Native.Nat.{_≤_, _<_};
 ghost use lib.ListN.{length};
-ghost use Rattle.numbers.specs.Numbers.{last-counter};
-ghost use Rattle.meaning.specs.State.{own-base};
+ghost use lib.Dec.{leb};
+ghost use Rattle.numbers.specs.Words.{map};
+ghost use Rattle.numbers.specs.Numbers.{counter, last-counter};
+ghost use Rattle.block.specs.Fields.{field};
+ghost use Rattle.meaning.specs.State.{own-base, look-up};
+ghost use Rattle.meaning.specs.Settle.{most-points};
 ghost use Rattle.meaning.specs.OwnSteps.{next-dot};
+ghost use Rattle.layout.specs.PointBlock.{form-1, decode-point};
 ghost use Rattle.layout.specs.Image.{image-length, decode, goodImage};
-ghost use Rattle.writing.specs.Judged.{own-judged, judged, verdict-of};
+ghost use Rattle.record.specs.Crewed.{crewed};
+ghost use Rattle.writing.specs.Judged.{has-record, own-judged, judged, verdict-of};
 
 // The base of the own row.
 fn own_base(image: &[u8]) -> u32
@@ -48,4 +56,65 @@ fn judge_own(image: &[u8]) -> Verdict
         return Verdict::Refused(Refusal::CountersUsedUp);
     }
     Verdict::Accepted
+}
+
+// The point has the record b: 8 by its context, 12 by the versions that stay. It has its place, so 13 never applies.
+fn judge_record(image: &[u8], b: &[u8], context: &[u32]) -> Verdict
+    requires { ⌜ (length (now image) ≡ image-length) × (goodImage (now image) ≡ true) × (length (now b) ≡ 512) × (field (now b) 5 1 ≤ 8) × (crewed (decode-point form-1 (now b) .object .versions) ≡ true) × (length (now context) ≡ 8)
+        × (has-record (decode-point form-1 (now b) .key) (decode (now image) .points) ≡ true) × (look-up (decode-point form-1 (now b) .key) (decode (now image) .points) ≡ decode-point form-1 (now b) .object) ⌝ }
+    ensures { λ r. ⌜ ((valued : Bool) → r ≡ verdict-of (judged (decode (now (image .entry))) (decode-point form-1 (now (b .entry)) .key) valued (map counter (now (context .entry))) true)) ⌝ }
+{
+    if object::ahead(
+        &b[8..40],
+        block::u8_at(b, 4),
+        &image[8..16],
+        &image[16..112],
+        context,
+    ) {
+        return Verdict::Refused(Refusal::ContextAhead);
+    }
+    if 8 <= object::staying(b, context) {
+        return Verdict::Refused(Refusal::TooManyVersions);
+    }
+    judge_own(image)
+}
+
+// A value needs a place, and all are taken.
+fn no_place(count: usize, valued: bool) -> bool
+    ensures { λ r. ⌜ r ≡ (valued && leb most-points count) ⌝ }
+{
+    if !valued {
+        return false;
+    }
+    64 <= count
+}
+
+// The point has no record: 8 by an empty context; no version stays, so 12 never applies; 13 where a value needs a place.
+fn judge_new(image: &[u8], count: usize, k: Key, valued: bool, context: &[u32]) -> Verdict
+    requires { ⌜ (length (now image) ≡ image-length) × (goodImage (now image) ≡ true) × (count ≡ length (decode (now image) .points)) × (length (now context) ≡ 8) × (has-record k (decode (now image) .points) ≡ false) ⌝ }
+    ensures { λ r. ⌜ r ≡ verdict-of (judged (decode (now (image .entry))) k valued (map counter (now (context .entry))) true) ⌝ }
+{
+    let none: [u8; 32] = [0; 32];
+    if object::ahead(&none, k.job, &image[8..16], &image[16..112], context) {
+        return Verdict::Refused(Refusal::ContextAhead);
+    }
+    if no_place(count, valued) {
+        return Verdict::Refused(Refusal::TooManyPoints);
+    }
+    judge_own(image)
+}
+
+// The first refusal from 8 on that applies to writing a value, or to deleting, at k with this context.
+pub fn judge(image: &[u8], k: Key, valued: bool, context: &[u32]) -> Verdict
+    requires { ⌜ (length (now image) ≡ image-length) × (goodImage (now image) ≡ true) × (length (now context) ≡ 8) ⌝ }
+    ensures { λ r. ⌜ r ≡ verdict-of (judged (decode (now (image .entry))) k valued (map counter (now (context .entry))) true) ⌝ }
+{
+    let count = image::stored_count(image);
+    match image::find_point(image, count, k) {
+        Found::At(i) => {
+            let at = 512 * (3 + i);
+            judge_record(image, &image[at..at + 512], context)
+        }
+        Found::Before(_) => judge_new(image, count, k, valued, context),
+    }
 }
