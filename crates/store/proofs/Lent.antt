@@ -43,11 +43,12 @@ module _ (img : List ℕ) (good : goodImage img ≡ true) where
   pub own-is-crew : Crew (decode img .own)
   own-is-crew = good-now .own-crew
 
+-- the stored points are counted
+pub counted : (img : List ℕ) (n : ℕ) → n ≡ stored-count img → n ≡ length (decode img .points)
+counted img n e = e ∙ sym (ap length (points-are img) ∙ upto-length (stored-count img) (point-at img))
+
 -- what fetch asks for, of a good image
 module _ (img : List ℕ) (good : goodImage img ≡ true) where
-  pub counted : (n : ℕ) → n ≡ stored-count img → n ≡ length (decode img .points)
-  counted n e = e ∙ sym (ap length (points-are img) ∙ upto-length (stored-count img) (point-at img))
-
   pub good-ascends : ascends? stored-before (decode img .points) ≡ true
   good-ascends = good-now img good .points-asc
 
@@ -56,8 +57,8 @@ module _ (img : List ℕ) (good : goodImage img ≡ true) where
 
 -- ---- the rows in a buffer of their own
 
-pub rows-copied : (img : List ℕ) → length img ≡ image-length → (z x : List ℕ) → length z ≡ 96 → x ≡ splice z 0 (length (cut img 16 96)) (cut img 16 96) → (length x ≡ 96) × (decode-clock x ≡ decode img .clock)
-rows-copied img size z x e d = (ap length same ∙ long, ap decode-clock same ∙ clock-part img size)
+pub rows-copied : (img z x : List ℕ) → x ≡ splice z 0 (length (cut img 16 96)) (cut img 16 96) → length img ≡ image-length → length z ≡ 96 → (length x ≡ 96) × (decode-clock x ≡ decode img .clock)
+rows-copied img z x d size e = (ap length same ∙ long, ap decode-clock same ∙ clock-part img size)
   where
     long : length (cut img 16 96) ≡ 96
     long = length-cut img 16 96 (omega arith)

@@ -8,3 +8,4 @@ pub mod After
 pub mod Message
 pub mod Rows
 pub mod Judges
+pub mod Keeping

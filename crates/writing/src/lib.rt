@@ -5,6 +5,7 @@ use numbers::Dot;
 use numbers::Key;
 use refusal::Refusal;
 use refusal::Verdict;
+use row::Row;
 ghost use mathlib.Core.Path.{_≡_};
 ghost use mathlib.Core.Bool.{Bool, true, false, _&&_};
 ghost use Prim.Native.Nat.{_≤_, _<_};
@@ -13,13 +14,16 @@ ghost use lib.Dec.{leb};
 ghost use Rattle.numbers.specs.Words.{map};
 ghost use Rattle.numbers.specs.Numbers.{counter, last-counter};
 ghost use Rattle.block.specs.Fields.{field};
+ghost use Rattle.block.specs.Block.{Laid};
 ghost use Rattle.meaning.specs.State.{own-base, look-up};
-ghost use Rattle.meaning.specs.Settle.{most-points};
+ghost use Rattle.meaning.specs.Settle.{most-points, most-listed, put};
 ghost use Rattle.meaning.specs.OwnSteps.{next-dot};
-ghost use Rattle.layout.specs.PointBlock.{form-1, decode-point};
-ghost use Rattle.layout.specs.Image.{image-length, decode, goodImage};
+ghost use Rattle.layout.specs.PointBlock.{form-1, decode-point, decode-stored};
+ghost use Rattle.layout.specs.Image.{image-length, encode, decode, goodImage};
 ghost use Rattle.record.specs.Crewed.{crewed};
+ghost use Rattle.record_edits.specs.Written.{lay-point, point-block};
 ghost use Rattle.writing.specs.Judged.{has-record, own-judged, judged, verdict-of};
+ghost use Rattle.writing.specs.Recorded.{next-clock, recorded};
 
 // The base of the own row.
 fn own_base(image: &[u8]) -> u32
@@ -117,4 +121,28 @@ pub fn judge(image: &[u8], k: Key, valued: bool, context: &[u32]) -> Verdict
         }
         Found::Before(_) => judge_new(image, count, k, valued, context),
     }
+}
+
+// ---- making it
+
+// The write whose message stands in b is recorded: the own row counts its dot, the own list has it, and its point has its place.
+pub fn keep_written(image: &mut [u8], d: Dot, b: &[u8])
+    requires { ⌜ (length (now image) ≡ image-length) × (goodImage (now image) ≡ true) × (d ≡ next-dot (decode (now image))) × (length (decode (now image) .own-dots) < most-listed) × (length (now b) ≡ 512) × Laid lay-point point-block (now b)
+        × (length (put (next-clock (decode (now image))) (decode (now image) .points) (decode-stored form-1 (now b))) ≤ most-points) ⌝ }
+    ensures { λ _. ⌜ now (image .exit) ≡ encode (recorded (decode (now (image .entry))) (decode-stored form-1 (now (b .entry)))) ⌝ }
+{
+    image_edits::set_row(
+        image,
+        d.who,
+        Row {
+            base: d.count.0,
+            bits: 0,
+        },
+    );
+    let listed = dots::entry_count(&image[512..1024]) as usize;
+    image_edits::insert_dot(image, 1, listed, d, record::key_of(b));
+    let mut rows: [u8; 96] = [0; 96];
+    block::copy_in(&mut rows, 0, &image[16..112]);
+    let count = image::stored_count(image);
+    store::put_result(image, count, b, &rows);
 }

@@ -29,7 +29,7 @@ stored-count-requires : tie.Need-stored-count-requires Inv-loop μ-loop
 stored-count-requires c κs = c .before .before .before .pre .0
 
 loop-holds : tie.Need-loop-holds Inv-loop μ-loop
-loop-holds c = let img = now (c .before .before .before .before .args .image) in let s = decode (now (c .before .before .before .before .args .image)) in let p = c .before .before .before .before .pre in stripping-none s img (c .stored-count .result) (p .0) refl (good-canonical img (p .1)) (counted (now (c .before .before .before .before .args .image)) (c .before .before .before .before .pre .1) (c .stored-count .result) (c .stored-count .ensures))
+loop-holds c = let img = now (c .before .before .before .before .args .image) in let s = decode (now (c .before .before .before .before .args .image)) in let p = c .before .before .before .before .pre in stripping-none s img (c .stored-count .result) (p .0) refl (good-canonical img (p .1)) (counted (now (c .before .before .before .before .args .image)) (c .stored-count .result) (c .stored-count .ensures))
 
 sub-i : tie.Need-sub-i Inv-loop μ-loop
 sub-i c = omega arith
@@ -53,16 +53,16 @@ loop-again-2 : tie.Need-loop-again-2 Inv-loop μ-loop
 loop-again-2 c = let img = now (c .before .before .before .before .before .before .before .before .before .before .before .args .image) in let s = decode (now (c .before .before .before .before .before .before .before .before .before .before .before .args .image)) in let p = c .before .before .before .before .before .before .before .before .before .before .before .pre in let S = c .before .before .before .before .before .before .loop .inv in stripping-more s (c .before .before .before .before .before .before .loop .image) (c .before .before .before .before .before .before .loop .i) (c .before .before .before .before .before .before .loop .count) S (c .before .before .before .before .before .loop-test .taken) _ (c .before .before .before .before .before .before .loop .count) (omega (arith, S .size)) (c .before .before .before .strip-at .ensures .1 ∙ ap (λ (k : Clock). with-points (decode (c .before .before .before .before .before .before .loop .image)) (restored k (decode (c .before .before .before .before .before .before .loop .image) .points) (c .before .before .before .before .before .before .loop .i - 1))) (p .3), c .before .before .before .strip-at .ensures .2) (went-none s (c .before .before .before .before .before .before .loop .image) (c .before .before .before .before .before .before .loop .i) (c .before .before .before .before .before .before .loop .count) S (c .before .before .before .before .before .loop-test .taken) (sym (ap (λ (k : Clock). gone (strip k (getD (decode (c .before .before .before .before .before .before .loop .image) .points) (c .before .before .before .before .before .before .loop .i - 1) no-point .object))) (p .3)) ∙ sym (c .before .before .before .strip-at .ensures .0) ∙ c .if1 .left)) (omega arith)
 
 sub-result : tie.Need-sub-result Inv-loop μ-loop
-sub-result c = let img = now (c .before .before .before .before .before .before .args .image) in let s = decode (now (c .before .before .before .before .before .before .args .image)) in let p = c .before .before .before .before .before .before .pre in let S = c .before .loop .inv in omega (arith, S .few, counted (now (c .before .before .before .before .before .before .args .image)) (c .before .before .before .before .before .before .pre .1) (c .before .before .stored-count .result) (c .before .before .stored-count .ensures))
+sub-result c = let img = now (c .before .before .before .before .before .before .args .image) in let s = decode (now (c .before .before .before .before .before .before .args .image)) in let p = c .before .before .before .before .before .before .pre in let S = c .before .loop .inv in omega (arith, S .few, counted (now (c .before .before .before .before .before .before .args .image)) (c .before .before .stored-count .result) (c .before .before .stored-count .ensures))
 
 cast-result : tie.Need-cast-result Inv-loop μ-loop
-cast-result c = let img = now (c .before .before .before .before .before .before .args .image) in let s = decode (now (c .before .before .before .before .before .before .args .image)) in let p = c .before .before .before .before .before .before .pre in let S = c .before .loop .inv in omega (arith, S .few, counted (now (c .before .before .before .before .before .before .args .image)) (c .before .before .before .before .before .before .pre .1) (c .before .before .stored-count .result) (c .before .before .stored-count .ensures), good-now img (p .1) .points-few)
+cast-result c = let img = now (c .before .before .before .before .before .before .args .image) in let s = decode (now (c .before .before .before .before .before .before .args .image)) in let p = c .before .before .before .before .before .before .pre in let S = c .before .loop .inv in omega (arith, S .few, counted (now (c .before .before .before .before .before .before .args .image)) (c .before .before .stored-count .result) (c .before .before .stored-count .ensures), good-now img (p .1) .points-few)
 
 same-length : tie.Need-same-length Inv-loop μ-loop
 same-length c = omega (arith, c .before .loop .inv .size)
 
 returns : tie.Need-returns Inv-loop μ-loop
-returns c = let img = now (c .before .before .before .before .before .before .args .image) in let s = decode (now (c .before .before .before .before .before .before .args .image)) in let p = c .before .before .before .before .before .before .pre in let S = c .before .loop .inv in (stripped-count s (c .before .loop .image) (c .before .loop .i) (c .before .loop .count) S (c .loop-test .left) (good-ascends img (p .1)) (c .before .before .stored-count .result) (counted (now (c .before .before .before .before .before .before .args .image)) (c .before .before .before .before .before .before .pre .1) (c .before .before .stored-count .result) (c .before .before .stored-count .ensures)), stripped-image s (c .before .loop .image) (c .before .loop .i) (c .before .loop .count) S (c .loop-test .left) (good-ascends img (p .1)))
+returns c = let img = now (c .before .before .before .before .before .before .args .image) in let s = decode (now (c .before .before .before .before .before .before .args .image)) in let p = c .before .before .before .before .before .before .pre in let S = c .before .loop .inv in (stripped-count s (c .before .loop .image) (c .before .loop .i) (c .before .loop .count) S (c .loop-test .left) (good-ascends img (p .1)) (c .before .before .stored-count .result) (counted (now (c .before .before .before .before .before .before .args .image)) (c .before .before .stored-count .result) (c .before .before .stored-count .ensures)), stripped-image s (c .before .loop .image) (c .before .loop .i) (c .before .loop .count) S (c .loop-test .left) (good-ascends img (p .1)))
 
 pub strip-all-spec : {M : Type 1} → statement M
 strip-all-spec =

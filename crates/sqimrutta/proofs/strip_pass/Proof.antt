@@ -47,7 +47,7 @@ slice-aggregate-strip-all : tie.Need-slice-aggregate-strip-all
 slice-aggregate-strip-all c = search needs
 
 strip-all-requires : tie.Need-strip-all-requires
-strip-all-requires c κs = let r = rows-copied (now (c .before .before .before .before .before .before .before .before .before .before .before .before .args .image)) (omega arith) _ _ (omega arith) (c .before .before .before .copy-in .ensures) in (omega arith, sym (c .before .before .before .before .before .before .before .before .good2 .ensures) ∙ not-false _ (c .before .before .before .before .before .before .before .if2 .left), r .0, r .1)
+strip-all-requires c κs = let r = rows-copied (now (c .before .before .before .before .before .before .before .before .before .before .before .before .args .image)) _ _ (c .before .before .before .copy-in .ensures) (omega arith) (omega arith) in (omega arith, sym (c .before .before .before .before .before .before .before .before .good2 .ensures) ∙ not-false _ (c .before .before .before .before .before .before .before .if2 .left), r .0, r .1)
 
 same-length-2 : tie.Need-same-length-2
 same-length-2 c = search needs

@@ -31,7 +31,7 @@ stored-count-requires : tie.Need-stored-count-requires
 stored-count-requires c κs = search needs
 
 fetch-requires : tie.Need-fetch-requires
-fetch-requires c κs = let img = now (c .before .before .before .before .before .before .args .image) in let g = c .before .before .before .before .before .before .pre .1 in (c .before .before .before .before .before .before .pre .0, good-canonical img g, counted img g (c .before .stored-count .result) (c .before .stored-count .ensures), good-ascends img g, c .before .before .before .before .before .before .pre .2)
+fetch-requires c κs = let img = now (c .before .before .before .before .before .before .args .image) in let g = c .before .before .before .before .before .before .pre .1 in (c .before .before .before .before .before .before .pre .0, good-canonical img g, counted img (c .before .stored-count .result) (c .before .stored-count .ensures), good-ascends img g, c .before .before .before .before .before .before .pre .2)
 
 sub-fill-in : tie.Need-sub-fill-in
 sub-fill-in c = search needs
