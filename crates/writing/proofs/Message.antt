@@ -4,6 +4,7 @@ use mathlib.Core.Path.{_≡_, ap, ap₂, sym, _∙_, subst}
 use mathlib.Core.Bool.{true, not}
 use mathlib.Core.List.{List}
 use lib.ListN.{length, take}
+use Rattle.numbers.specs.declared.Dot.{Dot}
 use Rattle.numbers.specs.declared.Key.{Key}
 use Rattle.numbers.specs.Words.{if_then_else_, keep, ascends?, place}
 use Rattle.numbers.specs.Numbers.{counter, is-controller, same-controller, each}
@@ -80,6 +81,20 @@ module _ (s : State) (G : Good s) (k : Key) (held : holds (s .table) (s .own) (k
             raised : put-entry (says (record { versions = place version-before fresh kept; context = local s k .context })) (s .own) (next-dot s .count)
                 ≡ says (record { versions = place version-before fresh kept; context = each (λ n. if same-controller n (s .own) then next-dot s .count else entry (local s k .context) n) })
             raised = ap (λ (x : Context). says (record { versions = place version-before fresh kept; context = x })) (put-as-each (local s k .context) (L .object .context .eight) (s .own) (G .own-crew) (next-dot s .count) (counter 0))
+
+-- what is said with the new dot's own parts
+module _ (s : State) (d : Dot) (next : d ≡ next-dot s) where
+  pub fetched-own : (k : Key) (b1 : List ℕ) → point-block b1 ≡ record { kind = 4; position = 0; point = record { sender = d .who; key = k; object = look-up k (s .points) } }
+      → point-block b1 ≡ record { kind = 4; position = 0; point = record { sender = s .own; key = k; object = look-up k (s .points) } }
+  unfolding next-dot
+  fetched-own k b1 p = p ∙ ap (λ (x : Dot). record { kind = 4; position = 0; point = record { sender = x .who; key = k; object = look-up k (s .points) } }) next
+
+  pub raised-own : (b4 b5 : List ℕ) → (point-block b5 ≡ put-entry (point-block b4) (d .who) (d .count)) × Laid lay-point point-block b5 → (point-block b5 ≡ put-entry (point-block b4) (s .own) (next-dot s .count)) × Laid lay-point point-block b5
+  unfolding next-dot
+  raised-own b4 b5 p = (p .0 ∙ ap (λ (x : Dot). put-entry (point-block b4) (x .who) (x .count)) next, p .1)
+
+  pub version-own : (v : Version) → v .dot ≡ d → v ≡ record { dot = next-dot s; contents = v .contents }
+  version-own v e i = record { dot = (e ∙ next) i; contents = v .contents }
 
 -- with the parts that were lent
 module _ (img : List ℕ) (size : length img ≡ image-length) where

@@ -15,14 +15,17 @@ ghost use Rattle.numbers.specs.Words.{map};
 ghost use Rattle.numbers.specs.Numbers.{counter, last-counter};
 ghost use Rattle.block.specs.Fields.{field};
 ghost use Rattle.block.specs.Block.{Laid};
+ghost use Rattle.meaning.specs.CrewTable.{holds};
+ghost use Rattle.meaning.specs.Message.{most-versions};
 ghost use Rattle.meaning.specs.State.{own-base, look-up};
 ghost use Rattle.meaning.specs.Settle.{most-points, most-listed, put};
-ghost use Rattle.meaning.specs.OwnSteps.{next-dot};
-ghost use Rattle.layout.specs.PointBlock.{form-1, decode-point, decode-stored};
+ghost use Rattle.meaning.specs.OwnSteps.{next-dot, written};
+ghost use Rattle.layout.specs.PointBlock.{form-1, encode-slot, decode-slot, decode-point, decode-stored};
 ghost use Rattle.layout.specs.Image.{image-length, encode, decode, goodImage};
+ghost use Rattle.layout.specs.Messages.{encode-outgoing};
 ghost use Rattle.record.specs.Crewed.{crewed};
 ghost use Rattle.record_edits.specs.Written.{lay-point, point-block};
-ghost use Rattle.writing.specs.Judged.{has-record, own-judged, judged, verdict-of};
+ghost use Rattle.writing.specs.Judged.{has-record, staying, own-judged, judged, verdict-of};
 ghost use Rattle.writing.specs.Recorded.{next-clock, recorded};
 
 // The base of the own row.
@@ -124,6 +127,23 @@ pub fn judge(image: &[u8], k: Key, valued: bool, context: &[u32]) -> Verdict
 }
 
 // ---- making it
+
+// "From the filled local object drop the versions that the given context covers; add the new version; raise the own context entry to the new
+// counter." "This filled object is the outgoing message." The new version stands in slot, and d is its dot.
+fn write_message(image: &[u8], k: Key, d: Dot, slot: &[u8], context: &[u32], out: &mut [u8])
+    requires { ⌜ (length (now image) ≡ image-length) × (goodImage (now image) ≡ true) × (holds (decode (now image) .table) (decode (now image) .own) (k .job) ≡ true) × (d ≡ next-dot (decode (now image)))
+        × (length (now slot) ≡ 32) × (encode-slot form-1 (decode-slot form-1 (now slot)) ≡ now slot) × (decode-slot form-1 (now slot) .dot ≡ d)
+        × (length (now context) ≡ 8) × (length (staying (decode (now image)) k (map counter (now context))) < most-versions) × (length (now out) ≡ 512) ⌝ }
+    ensures { λ _. ⌜ now (out .exit) ≡ encode-outgoing (record { sender = decode (now (image .entry)) .own; key = k; object = written (decode (now (image .entry))) k (decode-slot form-1 (now (slot .entry)) .contents) (map counter (now (context .entry))) }) ⌝ }
+{
+    let count = image::stored_count(image);
+    image_edits::fetch(image, count, k, 4, d.who, out);
+    object::fill_in(out, &image[8..16], &image[16..112]);
+    object::drop_covered(out, context);
+    object::put_version(out, slot);
+    record_edits::set_entry(out, d.who, d.count);
+    block::seal_block(out);
+}
 
 // The write whose message stands in b is recorded: the own row counts its dot, the own list has it, and its point has its place.
 pub fn keep_written(image: &mut [u8], d: Dot, b: &[u8])
