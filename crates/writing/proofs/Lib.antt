@@ -9,3 +9,4 @@ pub mod Message
 pub mod Rows
 pub mod Judges
 pub mod Keeping
+pub mod Accepted
