@@ -10,3 +10,4 @@ pub mod Rows
 pub mod Judges
 pub mod Keeping
 pub mod Accepted
+pub mod Down

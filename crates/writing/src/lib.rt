@@ -6,6 +6,7 @@ use numbers::Key;
 use refusal::Refusal;
 use refusal::Verdict;
 use row::Row;
+ghost use mathlib.Core.List.{[], _∷_};
 ghost use mathlib.Core.Path.{_≡_};
 ghost use mathlib.Core.Bool.{Bool, true, false, _&&_};
 ghost use Prim.Native.Nat.{_≤_, _<_};
@@ -13,13 +14,15 @@ ghost use lib.ListN.{length};
 ghost use lib.Dec.{leb};
 ghost use Rattle.numbers.specs.Words.{map};
 ghost use Rattle.numbers.specs.Numbers.{counter, last-counter};
+ghost use Rattle.refusal.specs.declared.Verdict.the-variants.{Accepted};
 ghost use Rattle.block.specs.Fields.{field};
 ghost use Rattle.block.specs.Block.{Laid};
 ghost use Rattle.meaning.specs.CrewTable.{holds};
-ghost use Rattle.meaning.specs.Message.{most-versions};
+ghost use Rattle.meaning.specs.Message.{most-versions, contents-formed};
+ghost use Rattle.meaning.specs.Object.{has-value};
 ghost use Rattle.meaning.specs.State.{own-base, look-up};
-ghost use Rattle.meaning.specs.Settle.{most-points, most-listed, put};
-ghost use Rattle.meaning.specs.OwnSteps.{next-dot, written};
+ghost use Rattle.meaning.specs.Settle.{most-points, most-listed, put, settled};
+ghost use Rattle.meaning.specs.OwnSteps.{ours, next-dot, written};
 ghost use Rattle.layout.specs.PointBlock.{form-1, encode-slot, decode-slot, decode-point, decode-stored};
 ghost use Rattle.layout.specs.Image.{image-length, encode, decode, goodImage};
 ghost use Rattle.layout.specs.Messages.{encode-outgoing};
@@ -146,7 +149,7 @@ fn write_message(image: &[u8], k: Key, d: Dot, slot: &[u8], context: &[u32], out
 }
 
 // The write whose message stands in b is recorded: the own row counts its dot, the own list has it, and its point has its place.
-pub fn keep_written(image: &mut [u8], d: Dot, b: &[u8])
+fn keep_written(image: &mut [u8], d: Dot, b: &[u8])
     requires { ⌜ (length (now image) ≡ image-length) × (goodImage (now image) ≡ true) × (d ≡ next-dot (decode (now image))) × (length (decode (now image) .own-dots) < most-listed) × (length (now b) ≡ 512) × Laid lay-point point-block (now b)
         × (length (put (next-clock (decode (now image))) (decode (now image) .points) (decode-stored form-1 (now b))) ≤ most-points) ⌝ }
     ensures { λ _. ⌜ now (image .exit) ≡ encode (recorded (decode (now (image .entry))) (decode-stored form-1 (now (b .entry)))) ⌝ }
@@ -165,4 +168,16 @@ pub fn keep_written(image: &mut [u8], d: Dot, b: &[u8])
     block::copy_in(&mut rows, 0, &image[16..112]);
     let count = image::stored_count(image);
     store::put_result(image, count, b, &rows);
+}
+
+// A write or a delete that was judged, with its version in slot and d as its dot: the message, and then the image that records it.
+pub fn put_down(image: &mut [u8], k: Key, d: Dot, slot: &[u8], context: &[u32], out: &mut [u8])
+    requires { ⌜ (length (now image) ≡ image-length) × (goodImage (now image) ≡ true) × (ours (decode (now image)) k ≡ true) × (d ≡ next-dot (decode (now image)))
+        × (length (now slot) ≡ 32) × (encode-slot form-1 (decode-slot form-1 (now slot)) ≡ now slot) × (decode-slot form-1 (now slot) .dot ≡ d) × (contents-formed (decode-slot form-1 (now slot) .contents) ≡ true)
+        × (length (now context) ≡ 8) × (verdict-of (judged (decode (now image)) k (has-value (decode-slot form-1 (now slot) .contents)) (map counter (now context)) true) ≡ Accepted) × (length (now out) ≡ 512) ⌝ }
+    ensures { λ _. ⌜ (now (image .exit) ≡ encode (settled (decode (now (image .entry))) (decode (now (image .entry)) .clock) (record { key = k; object = written (decode (now (image .entry))) k (decode-slot form-1 (now (slot .entry)) .contents) (map counter (now (context .entry))) } ∷ [])))
+        × (now (out .exit) ≡ encode-outgoing (record { sender = decode (now (image .entry)) .own; key = k; object = written (decode (now (image .entry))) k (decode-slot form-1 (now (slot .entry)) .contents) (map counter (now (context .entry))) })) ⌝ }
+{
+    write_message(image, k, d, slot, context, out);
+    keep_written(image, d, out);
 }
