@@ -11,3 +11,4 @@ pub mod Judges
 pub mod Keeping
 pub mod Accepted
 pub mod Down
+pub mod Steps

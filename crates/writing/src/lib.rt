@@ -18,17 +18,19 @@ ghost use Rattle.refusal.specs.declared.Verdict.the-variants.{Accepted};
 ghost use Rattle.block.specs.Fields.{field};
 ghost use Rattle.block.specs.Block.{Laid};
 ghost use Rattle.meaning.specs.CrewTable.{holds};
-ghost use Rattle.meaning.specs.Message.{most-versions, contents-formed};
-ghost use Rattle.meaning.specs.Object.{has-value};
+ghost use Rattle.meaning.specs.Message.{most-versions, contents-formed, longest-value};
+ghost use Rattle.meaning.specs.Object.{value, deleted, has-value};
 ghost use Rattle.meaning.specs.State.{own-base, look-up};
 ghost use Rattle.meaning.specs.Settle.{most-points, most-listed, put, settled};
-ghost use Rattle.meaning.specs.OwnSteps.{ours, next-dot, written};
+ghost use Rattle.meaning.specs.OwnSteps.{ours, next-dot, written, write, delete};
 ghost use Rattle.layout.specs.PointBlock.{form-1, encode-slot, decode-slot, decode-point, decode-stored};
 ghost use Rattle.layout.specs.Image.{image-length, encode, decode, goodImage};
 ghost use Rattle.layout.specs.Messages.{encode-outgoing};
+ghost use Rattle.layout.specs.Calls.{afterwards};
 ghost use Rattle.record.specs.Crewed.{crewed};
 ghost use Rattle.record_edits.specs.Written.{lay-point, point-block};
 ghost use Rattle.writing.specs.Judged.{has-record, staying, own-judged, judged, verdict-of};
+ghost use Rattle.writing.specs.LeftBy.{left-by};
 ghost use Rattle.writing.specs.Recorded.{next-clock, recorded};
 
 // The base of the own row.
@@ -42,7 +44,7 @@ fn own_base(image: &[u8]) -> u32
 }
 
 // "Write, delete: the dot is the own number with own base + 1."
-pub fn next_dot(image: &[u8]) -> Dot
+fn next_dot(image: &[u8]) -> Dot
     requires { ⌜ (length (now image) ≡ image-length) × (goodImage (now image) ≡ true) × (own-base (decode (now image)) < last-counter) ⌝ }
     ensures { λ r. ⌜ r ≡ next-dot (decode (now (image .entry))) ⌝ }
 {
@@ -115,7 +117,7 @@ fn judge_new(image: &[u8], count: usize, k: Key, valued: bool, context: &[u32]) 
 }
 
 // The first refusal from 8 on that applies to writing a value, or to deleting, at k with this context.
-pub fn judge(image: &[u8], k: Key, valued: bool, context: &[u32]) -> Verdict
+fn judge(image: &[u8], k: Key, valued: bool, context: &[u32]) -> Verdict
     requires { ⌜ (length (now image) ≡ image-length) × (goodImage (now image) ≡ true) × (length (now context) ≡ 8) ⌝ }
     ensures { λ r. ⌜ r ≡ verdict-of (judged (decode (now (image .entry))) k valued (map counter (now (context .entry))) true) ⌝ }
 {
@@ -171,7 +173,7 @@ fn keep_written(image: &mut [u8], d: Dot, b: &[u8])
 }
 
 // A write or a delete that was judged, with its version in slot and d as its dot: the message, and then the image that records it.
-pub fn put_down(image: &mut [u8], k: Key, d: Dot, slot: &[u8], context: &[u32], out: &mut [u8])
+fn put_down(image: &mut [u8], k: Key, d: Dot, slot: &[u8], context: &[u32], out: &mut [u8])
     requires { ⌜ (length (now image) ≡ image-length) × (goodImage (now image) ≡ true) × (ours (decode (now image)) k ≡ true) × (d ≡ next-dot (decode (now image)))
         × (length (now slot) ≡ 32) × (encode-slot form-1 (decode-slot form-1 (now slot)) ≡ now slot) × (decode-slot form-1 (now slot) .dot ≡ d) × (contents-formed (decode-slot form-1 (now slot) .contents) ≡ true)
         × (length (now context) ≡ 8) × (verdict-of (judged (decode (now image)) k (has-value (decode-slot form-1 (now slot) .contents)) (map counter (now context)) true) ≡ Accepted) × (length (now out) ≡ 512) ⌝ }
@@ -180,4 +182,67 @@ pub fn put_down(image: &mut [u8], k: Key, d: Dot, slot: &[u8], context: &[u32], 
 {
     write_message(image, k, d, slot, context, out);
     keep_written(image, d, out);
+}
+
+// A value that was judged.
+fn put_value(image: &mut [u8], k: Key, said: &[u8], context: &[u32], out: &mut [u8])
+    requires { ⌜ (length (now image) ≡ image-length) × (goodImage (now image) ≡ true) × (ours (decode (now image)) k ≡ true) × (length (now said) ≤ longest-value)
+        × (length (now context) ≡ 8) × (verdict-of (judged (decode (now image)) k true (map counter (now context)) true) ≡ Accepted) × (length (now out) ≡ 512) ⌝ }
+    ensures { λ _. ⌜ (now (image .exit) ≡ encode (settled (decode (now (image .entry))) (decode (now (image .entry)) .clock) (record { key = k; object = written (decode (now (image .entry))) k (value (now (said .entry))) (map counter (now (context .entry))) } ∷ [])))
+        × (now (out .exit) ≡ encode-outgoing (record { sender = decode (now (image .entry)) .own; key = k; object = written (decode (now (image .entry))) k (value (now (said .entry))) (map counter (now (context .entry))) })) ⌝ }
+{
+    let d = next_dot(image);
+    let mut slot: [u8; 32] = [0; 32];
+    record_edits::make_slot(&mut slot, d, said);
+    put_down(image, k, d, &slot, context, out);
+}
+
+// A deletion that was judged.
+fn put_deletion(image: &mut [u8], k: Key, context: &[u32], out: &mut [u8])
+    requires { ⌜ (length (now image) ≡ image-length) × (goodImage (now image) ≡ true) × (ours (decode (now image)) k ≡ true)
+        × (length (now context) ≡ 8) × (verdict-of (judged (decode (now image)) k false (map counter (now context)) true) ≡ Accepted) × (length (now out) ≡ 512) ⌝ }
+    ensures { λ _. ⌜ (now (image .exit) ≡ encode (settled (decode (now (image .entry))) (decode (now (image .entry)) .clock) (record { key = k; object = written (decode (now (image .entry))) k deleted (map counter (now (context .entry))) } ∷ [])))
+        × (now (out .exit) ≡ encode-outgoing (record { sender = decode (now (image .entry)) .own; key = k; object = written (decode (now (image .entry))) k deleted (map counter (now (context .entry))) })) ⌝ }
+{
+    let d = next_dot(image);
+    let mut slot: [u8; 32] = [0; 32];
+    record_edits::make_deleted_slot(&mut slot, d);
+    put_down(image, k, d, &slot, context, out);
+}
+
+// ---- the steps, on a good image and a point that is ours
+
+// Write: 7, then what a write and a delete have in common.
+pub fn write_at(image: &mut [u8], k: Key, said: &[u8], context: &[u32], out: &mut [u8]) -> Verdict
+    requires { ⌜ (length (now image) ≡ image-length) × (goodImage (now image) ≡ true) × (ours (decode (now image)) k ≡ true) × (length (now context) ≡ 8) × (length (now out) ≡ 512) ⌝ }
+    ensures { λ r. ⌜ (r ≡ afterwards (now (image .entry)) (now (out .entry)) (left-by (write (decode (now (image .entry))) k (now (said .entry)) (map counter (now (context .entry))))) .verdict)
+        × (now (image .exit) ≡ afterwards (now (image .entry)) (now (out .entry)) (left-by (write (decode (now (image .entry))) k (now (said .entry)) (map counter (now (context .entry))))) .image)
+        × (now (out .exit) ≡ afterwards (now (image .entry)) (now (out .entry)) (left-by (write (decode (now (image .entry))) k (now (said .entry)) (map counter (now (context .entry))))) .out) ⌝ }
+{
+    if 24 < said.len() {
+        return Verdict::Refused(Refusal::ValueTooLong);
+    }
+    match judge(image, k, true, context) {
+        Verdict::Refused(r) => Verdict::Refused(r),
+        Verdict::Accepted => {
+            put_value(image, k, said, context, out);
+            Verdict::Accepted
+        }
+    }
+}
+
+// Delete: what a write and a delete have in common.
+pub fn delete_at(image: &mut [u8], k: Key, context: &[u32], out: &mut [u8]) -> Verdict
+    requires { ⌜ (length (now image) ≡ image-length) × (goodImage (now image) ≡ true) × (ours (decode (now image)) k ≡ true) × (length (now context) ≡ 8) × (length (now out) ≡ 512) ⌝ }
+    ensures { λ r. ⌜ (r ≡ afterwards (now (image .entry)) (now (out .entry)) (left-by (delete (decode (now (image .entry))) k (map counter (now (context .entry))))) .verdict)
+        × (now (image .exit) ≡ afterwards (now (image .entry)) (now (out .entry)) (left-by (delete (decode (now (image .entry))) k (map counter (now (context .entry))))) .image)
+        × (now (out .exit) ≡ afterwards (now (image .entry)) (now (out .entry)) (left-by (delete (decode (now (image .entry))) k (map counter (now (context .entry))))) .out) ⌝ }
+{
+    match judge(image, k, false, context) {
+        Verdict::Refused(r) => Verdict::Refused(r),
+        Verdict::Accepted => {
+            put_deletion(image, k, context, out);
+            Verdict::Accepted
+        }
+    }
 }
