@@ -1,17 +1,24 @@
--- The rows of the table that every call on an image begins with: 1 and 2. Assumes nothing.
+-- The rows of the table that a call on an image begins with: 1 and 2, and 5 of a point. Assumes nothing.
 use Prim.Native.Nat.{ℕ}
-use mathlib.Core.Path.{_≡_, ap, _∙_}
-use mathlib.Core.Bool.{Bool, true, false, _&&_}
+use mathlib.Core.Path.{_≡_, refl, ap, sym, _∙_}
+use mathlib.Core.Bool.{Bool, true, false, _&&_, not}
 use mathlib.Core.List.{List}
 use lib.ListN.{length}
-use borrow.Author.Tests.{eq-eqb, ne-eqb}
-use Rattle.refusal.specs.declared.Verdict.the-variants.{Refused}
+use borrow.Author.Tests.{eqb-true, eq-eqb, ne-eqb}
+use Rattle.numbers.specs.declared.Key.{Key}
+use Rattle.numbers.proofs.Tests.{and-left, and-right}
+use Rattle.refusal.specs.declared.Verdict.the-variants.{Accepted, Refused}
 use Rattle.refusal.specs.declared.Refusal.{Refusal}
-use Rattle.refusal.specs.declared.Refusal.the-variants.{WrongLength, ImageNotGood}
-use Rattle.refusal.specs.Refusal.{Answer, refused, refuse_when_else_}
+use Rattle.refusal.specs.declared.Refusal.the-variants.{WrongLength, ImageNotGood, OutOfRange}
+use Rattle.refusal.specs.Refusal.{Answer, refused, accepted, refuse_when_else_}
 use Rattle.meaning.specs.State.{State}
+use Rattle.meaning.specs.OwnSteps.{ours}
+use Rattle.laws.proofs.Answers.{passes-not}
 use Rattle.layout.specs.Image.{image-length, decode, goodImage}
 use Rattle.layout.specs.Calls.{Left, After, afterwards, whole-image, on-image}
+use Rattle.writing.specs.Judged.{verdict-of}
+use Rattle.writing.proofs.Accepted.{then, by-refusal, by-none, accepted-with}
+use Rattle.sqimrutta.specs.Admitted.{admitted}
 
 -- refused with r, and all as it was
 abbrev pub leaves : Refusal → List ℕ → List ℕ → After
@@ -43,3 +50,74 @@ module _ (others : Bool) (img : List ℕ) (step : State → Answer Left) where
     pub goes-on : others ≡ true → goodImage img ≡ true → on-image others img step ≡ step (decode img)
     unfolding on-image refuse_when_else_
     goes-on h g = rw (right h, g)
+
+-- ---- rows 1, 2 and 5
+
+module _ (img : List ℕ) (lengths : Bool) (k : Key) where
+  pub no-image : (length img ≡ image-length → ⊥) → Refused WrongLength ≡ verdict-of (admitted img lengths k)
+  unfolding admitted refuse_when_else_
+  no-image h = sym (rw (ap (λ (b : Bool). b && lengths) (ne-eqb (length img) image-length h)))
+
+  module _ (size : length img ≡ image-length) where
+    whole : (whole-image img && lengths) ≡ lengths
+    whole = ap (λ (b : Bool). b && lengths) (eq-eqb (length img) image-length size)
+
+    pub no-buffer : lengths ≡ false → Refused WrongLength ≡ verdict-of (admitted img lengths k)
+    unfolding admitted refuse_when_else_
+    no-buffer h = sym (rw (whole ∙ h))
+
+    module _ (right : lengths ≡ true) where
+      pub bad-image : goodImage img ≡ false → Refused ImageNotGood ≡ verdict-of (admitted img lengths k)
+      unfolding admitted refuse_when_else_
+      bad-image h = sym (rw (whole ∙ right, h))
+
+      module _ (good : goodImage img ≡ true) where
+        pub not-ours : ours (decode img) k ≡ false → Refused OutOfRange ≡ verdict-of (admitted img lengths k)
+        unfolding admitted refuse_when_else_
+        not-ours h = sym (rw (whole ∙ right, good, h))
+
+        pub may-go-on : ours (decode img) k ≡ true → Accepted ≡ verdict-of (admitted img lengths k)
+        unfolding admitted refuse_when_else_
+        may-go-on h = sym (rw (whole ∙ right, good, h))
+
+  -- ---- and what they say of a call
+
+  same-rows : (a g o : Bool) (x : Answer Left) → (o ≡ false → x ≡ refused OutOfRange)
+      → (refuse WrongLength when not a else refuse ImageNotGood when not g else x)
+      ≡ then (refuse WrongLength when not a else refuse ImageNotGood when not g else refuse OutOfRange when not o else accepted true) x
+  unfolding refuse_when_else_ then
+  same-rows false g o x h = refl
+  same-rows true false o x h = refl
+  same-rows true true false x h = h refl
+  same-rows true true true x h = refl
+
+  module _ (step : State → Answer Left) (asks : (s : State) → ours s k ≡ false → step s ≡ refused OutOfRange) where
+    begins : on-image lengths img step ≡ then (admitted img lengths k) (step (decode img))
+    unfolding on-image admitted
+    begins = same-rows (whole-image img && lengths) (goodImage img) (ours (decode img) k) (step (decode img)) (asks (decode img))
+
+    pub refused-first : (r : Refusal) → verdict-of (admitted img lengths k) ≡ Refused r → on-image lengths img step ≡ refused r
+    refused-first r e = begins ∙ by-refusal (step (decode img)) (admitted img lengths k) r e
+
+    pub admitted-then : verdict-of (admitted img lengths k) ≡ Accepted → on-image lengths img step ≡ step (decode img)
+    admitted-then e = begins ∙ by-none (step (decode img)) (admitted img lengths k) e
+
+  pub record Admitted : Type 0 where
+    pub size : length img ≡ image-length
+    pub right : lengths ≡ true
+    pub good : goodImage img ≡ true
+    pub mine : ours (decode img) k ≡ true
+
+  pub what-is-admitted : verdict-of (admitted img lengths k) ≡ Accepted → Admitted
+  unfolding admitted
+  what-is-admitted e =
+      let a = accepted-with (admitted img lengths k) e .1 in
+      let first = passes-not WrongLength (whole-image img && lengths) _ a in
+      let second = passes-not ImageNotGood (goodImage img) _ (first .1) in
+      let third = passes-not OutOfRange (ours (decode img) k) _ (second .1) in
+      record {
+        size = eqb-true (length img) image-length (and-left (whole-image img) lengths (first .0));
+        right = and-right (whole-image img) lengths (first .0);
+        good = second .0;
+        mine = third .0;
+      }

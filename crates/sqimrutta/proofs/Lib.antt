@@ -2,4 +2,5 @@ pub mod Fresh
 pub mod Starting
 pub mod Ladder
 pub mod Reading
+pub mod Writing
 pub mod StripPass

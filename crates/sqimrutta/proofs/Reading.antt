@@ -1,18 +1,19 @@
 -- The definition of read, case by case, and the reading as it is written. Assumes nothing.
 use Prim.Native.Nat.{ℕ, _≤_, _<_}
 use mathlib.Core.Path.{_≡_, refl, ap, ap₂, sym, _∙_}
-use mathlib.Core.Bool.{Bool, true, false, _&&_}
+use mathlib.Core.Bool.{Bool, false, _&&_, not}
 use mathlib.Core.List.{List}
 use lib.ListN.{length, take}
 use lib.Dec.{leb}
-use borrow.Author.Tests.{eq-eqb, ne-eqb, le-leb, lt-leb}
+use borrow.Author.Tests.{le-leb, lt-leb}
 use Rattle.numbers.specs.declared.Controller.{Controller}
 use Rattle.numbers.specs.declared.Key.{Key}
 use Rattle.numbers.specs.Words.{keep}
 use Rattle.numbers.specs.Numbers.{is-job, is-point}
 use Rattle.numbers.specs.Key.{key, is-key}
-use Rattle.refusal.specs.declared.Verdict.the-variants.{Accepted}
-use Rattle.refusal.specs.declared.Refusal.the-variants.{WrongLength, ImageNotGood, OutOfRange}
+use Rattle.refusal.specs.declared.Verdict.the-variants.{Accepted, Refused}
+use Rattle.refusal.specs.declared.Refusal.{Refusal}
+use Rattle.refusal.specs.declared.Refusal.the-variants.{OutOfRange}
 use Rattle.refusal.specs.Refusal.{Answer, refused, accepted, refuse_when_else_, _>>=_}
 use Rattle.block.specs.Fields.{cut}
 use Rattle.block.specs.Check.{seal}
@@ -24,12 +25,14 @@ use Rattle.meaning.specs.State.{State, look-up, local}
 use Rattle.meaning.specs.OwnSteps.{ours, shown, read}
 use Rattle.layout.specs.Clocks.{decode-clock}
 use Rattle.layout.specs.PointBlock.{form-1, decode-point}
-use Rattle.layout.specs.Image.{image-length, decode-head, decode, goodImage}
+use Rattle.layout.specs.Image.{image-length, decode-head, decode}
 use Rattle.layout.specs.Messages.{encode-reading}
 use Rattle.layout.specs.Calls.{Left, afterwards, one-block, on-image, read-call}
 use Rattle.record_edits.specs.Written.{Written, lay-point, point-block, with-object, with-versions}
 use Rattle.store.proofs.Lent.{table-part, clock-part, own-part}
-use Rattle.sqimrutta.proofs.Ladder.{leaves, wrong-image, wrong-other, not-good, goes-on}
+use Rattle.writing.specs.Judged.{verdict-of}
+use Rattle.sqimrutta.specs.Admitted.{admitted}
+use Rattle.sqimrutta.proofs.Ladder.{leaves, refused-leaves, refused-first, admitted-then, what-is-admitted}
 
 -- ---- case by case
 
@@ -37,38 +40,21 @@ module _ (img : List ℕ) (job point : ℕ) (out : List ℕ) where
   abbrev step : State → Answer Left
   step s = read s (key job point) >>= λ o. accepted (record { image = img; out = encode-reading o; count = 0 })
 
-  as-is : (a : Answer Left) → on-image (one-block out) img step ≡ a → read-call img job point out ≡ afterwards img out a
+  asks : (s : State) → ours s (key job point) ≡ false → step s ≡ refused OutOfRange
+  unfolding read refuse_when_else_
+  asks s h = rw h
+
+  pub read-refused : (r : Refusal) → verdict-of (admitted img (one-block out) (key job point)) ≡ Refused r → read-call img job point out ≡ leaves r img out
   unfolding read-call
-  as-is a e = ap (afterwards img out) e
+  read-refused r e = refused-leaves img out (on-image (one-block out) img step) r (refused-first img (one-block out) (key job point) step asks r e)
 
-  pub read-wrong-image : (length img ≡ image-length → ⊥) → read-call img job point out ≡ leaves WrongLength img out
-  unfolding afterwards
-  read-wrong-image h = as-is (refused WrongLength) (wrong-image (one-block out) img step h)
-
-  module _ (size : length img ≡ image-length) where
-    pub read-wrong-out : (length out ≡ 512 → ⊥) → read-call img job point out ≡ leaves WrongLength img out
-    unfolding afterwards
-    read-wrong-out h = as-is (refused WrongLength) (wrong-other (one-block out) img step size (ne-eqb (length out) 512 h))
-
-    module _ (room : length out ≡ 512) where
-      block : one-block out ≡ true
-      block = eq-eqb (length out) 512 room
-
-      pub read-not-good : goodImage img ≡ false → read-call img job point out ≡ leaves ImageNotGood img out
-      unfolding afterwards
-      read-not-good h = as-is (refused ImageNotGood) (not-good (one-block out) img step size block h)
-
-      module _ (good : goodImage img ≡ true) where
-        pub read-not-ours : ours (decode img) (key job point) ≡ false → read-call img job point out ≡ leaves OutOfRange img out
-        unfolding afterwards read refuse_when_else_
-        read-not-ours h = as-is (refused OutOfRange) (goes-on (one-block out) img step size block good ∙ rw h)
-
-        pub read-shown : ours (decode img) (key job point) ≡ true
-            → read-call img job point out ≡ record { verdict = Accepted; image = img; out = encode-reading (record { sender = decode img .own; key = key job point; object = shown (local (decode img) (key job point)) }); count = 0 }
-        unfolding afterwards read refuse_when_else_
-        read-shown h =
-            as-is (accepted (record { image = img; out = encode-reading (record { sender = decode img .own; key = key job point; object = shown (local (decode img) (key job point)) }); count = 0 }))
-            (goes-on (one-block out) img step size block good ∙ rw h)
+  pub read-shown : verdict-of (admitted img (one-block out) (key job point)) ≡ Accepted
+      → read-call img job point out ≡ record { verdict = Accepted; image = img; out = encode-reading (record { sender = decode img .own; key = key job point; object = shown (local (decode img) (key job point)) }); count = 0 }
+  unfolding read-call afterwards read refuse_when_else_
+  read-shown e =
+      ap (afterwards img out) (admitted-then img (one-block out) (key job point) step asks e)
+      ∙ ap (λ (b : Bool). afterwards img out ((refuse OutOfRange when not b else accepted (record { sender = decode img .own; key = key job point; object = shown (local (decode img) (key job point)) })) >>= λ o. accepted (record { image = img; out = encode-reading o; count = 0 })))
+      (what-is-admitted img (one-block out) (key job point) e .mine)
 
 -- ---- ours
 

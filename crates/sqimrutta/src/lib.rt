@@ -5,9 +5,10 @@ use refusal::Refusal;
 use refusal::Verdict;
 ghost use mathlib.Core.Path.{_≡_};
 ghost use Prim.Native.Nat.{_≤_, _<_};
-ghost use mathlib.Core.Bool.{true};
+ghost use mathlib.Core.Bool.{true, _&&_};
 ghost use mathlib.Core.List.{[]};
 ghost use lib.ListN.{length};
+ghost use lib.Dec.{eqb};
 ghost use Rattle.numbers.specs.Numbers.{controller, Crew};
 ghost use Rattle.numbers.specs.Words.{if_then_else_};
 ghost use Rattle.refusal.specs.Refusal.{answer-number};
@@ -16,7 +17,9 @@ ghost use Rattle.meaning.specs.OwnSteps.{fresh, ours, shown, strip-pass};
 ghost use Rattle.layout.specs.Clocks.{decode-clock};
 ghost use Rattle.layout.specs.Image.{image-length, head-of, encode-head, encode-dots, encode, decode, goodImage};
 ghost use Rattle.layout.specs.Messages.{encode-reading};
-ghost use Rattle.layout.specs.Calls.{start-call, read-call, strip-pass-call};
+ghost use Rattle.layout.specs.Calls.{one-block, start-call, read-call, write-call, delete-call, strip-pass-call};
+ghost use Rattle.writing.specs.Judged.{verdict-of};
+ghost use Rattle.sqimrutta.specs.Admitted.{admitted};
 
 // A fresh head: the own number and the table, and nothing seen.
 fn write_fresh_head(b: &mut [u8], number: u8, table: &[u8])
@@ -92,7 +95,7 @@ pub extern "C" fn sqimrutta_good(image: &[u8]) -> u32
     0
 }
 
-// ---- reading
+// ---- what a call on a point begins with
 
 // 5: the arguments are in their ranges, and the job is held here.
 fn is_ours(image: &[u8], k: Key) -> bool
@@ -108,6 +111,27 @@ fn is_ours(image: &[u8], k: Key) -> bool
     }
     parts::holds(&image[8..16], head::own_of(&image[0..512]), job)
 }
+
+// Rows 1, 2 and 5 of the table. `lengths` says whether those of the buffers beside the image are right.
+fn admit(image: &[u8], lengths: bool, k: Key) -> Verdict
+    ensures { λ r. ⌜ r ≡ verdict-of (admitted (now (image .entry)) lengths k) ⌝ }
+{
+    if image.len() != 34304 {
+        return Verdict::Refused(Refusal::WrongLength);
+    }
+    if !lengths {
+        return Verdict::Refused(Refusal::WrongLength);
+    }
+    if !image::good(image) {
+        return Verdict::Refused(Refusal::ImageNotGood);
+    }
+    if !is_ours(image, k) {
+        return Verdict::Refused(Refusal::OutOfRange);
+    }
+    Verdict::Accepted
+}
+
+// ---- reading
 
 // "Read: the filled object without its deleted versions."
 fn write_reading(image: &[u8], k: Key, out: &mut [u8])
@@ -125,24 +149,17 @@ fn write_reading(image: &[u8], k: Key, out: &mut [u8])
 pub fn read(image: &[u8], job: u8, point: u16, out: &mut [u8]) -> Verdict
     ensures { λ r. ⌜ (r ≡ read-call (now (image .entry)) job point (now (out .entry)) .verdict) × (now (out .exit) ≡ read-call (now (image .entry)) job point (now (out .entry)) .out) ⌝ }
 {
-    if image.len() != 34304 {
-        return Verdict::Refused(Refusal::WrongLength);
-    }
-    if out.len() != 512 {
-        return Verdict::Refused(Refusal::WrongLength);
-    }
-    if !image::good(image) {
-        return Verdict::Refused(Refusal::ImageNotGood);
-    }
     let k = Key {
         job: job,
         point: Point(point),
     };
-    if !is_ours(image, k) {
-        return Verdict::Refused(Refusal::OutOfRange);
+    match admit(image, out.len() == 512, k) {
+        Verdict::Refused(r) => Verdict::Refused(r),
+        Verdict::Accepted => {
+            write_reading(image, k, out);
+            Verdict::Accepted
+        }
     }
-    write_reading(image, k, out);
-    Verdict::Accepted
 }
 
 #[no_mangle]
@@ -150,6 +167,83 @@ pub extern "C" fn sqimrutta_read(image: &[u8], job: u8, point: u16, out: &mut [u
     ensures { λ r. ⌜ (r ≡ answer-number (read-call (now (image .entry)) job point (now (out .entry)) .verdict)) × (now (out .exit) ≡ read-call (now (image .entry)) job point (now (out .entry)) .out) ⌝ }
 {
     read(image, job, point, out).number()
+}
+
+// ---- writing and deleting
+
+// "contexts eight counters", and one block for the message.
+fn lengths_right(context: &[u32], out: &[u8]) -> bool
+    ensures { λ r. ⌜ r ≡ (eqb (length (now (context .entry))) 8 && one-block (now (out .entry))) ⌝ }
+{
+    context.len() == 8 && out.len() == 512
+}
+
+pub fn write(
+    image: &mut [u8],
+    job: u8,
+    point: u16,
+    value: &[u8],
+    context: &[u32],
+    out: &mut [u8],
+) -> Verdict
+    ensures { λ r. ⌜ (r ≡ write-call (now (image .entry)) job point (now (value .entry)) (now (context .entry)) (now (out .entry)) .verdict)
+        × (now (image .exit) ≡ write-call (now (image .entry)) job point (now (value .entry)) (now (context .entry)) (now (out .entry)) .image)
+        × (now (out .exit) ≡ write-call (now (image .entry)) job point (now (value .entry)) (now (context .entry)) (now (out .entry)) .out) ⌝ }
+{
+    let k = Key {
+        job: job,
+        point: Point(point),
+    };
+    match admit(image, lengths_right(context, out), k) {
+        Verdict::Refused(r) => Verdict::Refused(r),
+        Verdict::Accepted => writing::write_at(image, k, value, context, out),
+    }
+}
+
+pub fn delete(image: &mut [u8], job: u8, point: u16, context: &[u32], out: &mut [u8]) -> Verdict
+    ensures { λ r. ⌜ (r ≡ delete-call (now (image .entry)) job point (now (context .entry)) (now (out .entry)) .verdict)
+        × (now (image .exit) ≡ delete-call (now (image .entry)) job point (now (context .entry)) (now (out .entry)) .image)
+        × (now (out .exit) ≡ delete-call (now (image .entry)) job point (now (context .entry)) (now (out .entry)) .out) ⌝ }
+{
+    let k = Key {
+        job: job,
+        point: Point(point),
+    };
+    match admit(image, lengths_right(context, out), k) {
+        Verdict::Refused(r) => Verdict::Refused(r),
+        Verdict::Accepted => writing::delete_at(image, k, context, out),
+    }
+}
+
+#[no_mangle]
+pub extern "C" fn sqimrutta_write(
+    image: &mut [u8],
+    job: u8,
+    point: u16,
+    value: &[u8],
+    context: &[u32],
+    out: &mut [u8],
+) -> u32
+    ensures { λ r. ⌜ (r ≡ answer-number (write-call (now (image .entry)) job point (now (value .entry)) (now (context .entry)) (now (out .entry)) .verdict))
+        × (now (image .exit) ≡ write-call (now (image .entry)) job point (now (value .entry)) (now (context .entry)) (now (out .entry)) .image)
+        × (now (out .exit) ≡ write-call (now (image .entry)) job point (now (value .entry)) (now (context .entry)) (now (out .entry)) .out) ⌝ }
+{
+    write(image, job, point, value, context, out).number()
+}
+
+#[no_mangle]
+pub extern "C" fn sqimrutta_delete(
+    image: &mut [u8],
+    job: u8,
+    point: u16,
+    context: &[u32],
+    out: &mut [u8],
+) -> u32
+    ensures { λ r. ⌜ (r ≡ answer-number (delete-call (now (image .entry)) job point (now (context .entry)) (now (out .entry)) .verdict))
+        × (now (image .exit) ≡ delete-call (now (image .entry)) job point (now (context .entry)) (now (out .entry)) .image)
+        × (now (out .exit) ≡ delete-call (now (image .entry)) job point (now (context .entry)) (now (out .entry)) .out) ⌝ }
+{
+    delete(image, job, point, context, out).number()
 }
 
 // ---- strip pass

@@ -1,6 +1,6 @@
 -- An accepted and a refused judgement, whatever the result is. Assumes nothing.
 use Prim.Native.Nat.{_<_}
-use mathlib.Core.Path.{_≡_, refl, ap, sym, _∙_, subst}
+use mathlib.Core.Path.{_≡_, refl, ap, _∙_}
 use mathlib.Core.Bool.{Bool, true, false, _&&_, not}
 use lib.ListN.{length}
 use lib.Dec.{leb}
@@ -21,13 +21,13 @@ use Rattle.meaning.specs.OwnSteps.{context-ahead}
 use Rattle.laws.proofs.Answers.{passes}
 use Rattle.writing.specs.Judged.{has-record, staying, own-judged, judged, verdict-of}
 
--- the judgement with another result
-then : {A : Type 0} → Answer Bool → A → Answer A
-then a x = a >>= λ y. accepted x
+-- the judgement, and then another answer
+unfoldable pub then : {A : Type 0} → Answer Bool → Answer A → Answer A
+then a x = a >>= λ y. x
 
 same-refusals : {A : Type 0} (x : A) (a b c d e : Bool)
     → (refuse ContextAhead when a else refuse TooManyVersions when b else refuse TooManyPoints when c else refuse OwnListFull when d else refuse CountersUsedUp when e else accepted x)
-    ≡ then (refuse ContextAhead when a else refuse TooManyVersions when b else refuse TooManyPoints when c else refuse OwnListFull when d else refuse CountersUsedUp when e else accepted true) x
+    ≡ then (refuse ContextAhead when a else refuse TooManyVersions when b else refuse TooManyPoints when c else refuse OwnListFull when d else refuse CountersUsedUp when e else accepted true) (accepted x)
 unfolding refuse_when_else_ then
 same-refusals x true b c d e = refl
 same-refusals x false true c d e = refl
@@ -36,7 +36,7 @@ same-refusals x false false false true e = refl
 same-refusals x false false false false true = refl
 same-refusals x false false false false false = refl
 
-by-refusal : {A : Type 0} (x : A) (a : Answer Bool) (r : Refusal) → verdict-of a ≡ Refused r → then a x ≡ refused r
+pub by-refusal : {A : Type 0} (x : Answer A) (a : Answer Bool) (r : Refusal) → verdict-of a ≡ Refused r → then a x ≡ refused r
 unfolding then
 by-refusal x (refused q) r e = ap refused (ap which e)
   where
@@ -49,27 +49,30 @@ by-refusal x (accepted y) r e = absurd (never {b = is-refused Accepted} (ap is-r
     is-refused Accepted = false
     is-refused (Refused p) = true
 
-by-none : {A : Type 0} (x : A) (a : Answer Bool) → verdict-of a ≡ Accepted → then a x ≡ accepted x
-unfolding then
-by-none x (accepted y) e = refl
-by-none x (refused q) e = absurd (never {b = is-accepted (Refused q)} (ap is-accepted e) refl)
+pub accepted-with : (a : Answer Bool) → verdict-of a ≡ Accepted → (y : Bool) × (a ≡ accepted y)
+accepted-with (accepted y) e = (y, refl)
+accepted-with (refused q) e = absurd (never {b = is-accepted (Refused q)} (ap is-accepted e) refl)
   where
     is-accepted : Verdict → Bool
     is-accepted Accepted = true
     is-accepted (Refused p) = false
 
+pub by-none : {A : Type 0} (x : Answer A) (a : Answer Bool) → verdict-of a ≡ Accepted → then a x ≡ x
+unfolding then
+by-none x a e = ap (λ (b : Answer Bool). b >>= λ y. x) (accepted-with a e .1)
+
 module _ (s : State) (k : Key) (valued : Bool) (c : Context) where
-  any-result : {A : Type 0} (x : A) → judged s k valued c x ≡ then (judged s k valued c true) x
+  any-result : {A : Type 0} (x : A) → judged s k valued c x ≡ then (judged s k valued c true) (accepted x)
   unfolding judged own-judged
   any-result x =
       same-refusals x (context-ahead s k c) (leb most-versions (length (staying s k c))) (valued && (not (has-record k (s .points)) && leb most-points (length (s .points)))) (leb most-listed (length (s .own-dots))) (leb last-counter (own-base s))
 
   pub judged-refused : {A : Type 0} (x : A) (r : Refusal) → verdict-of (judged s k valued c true) ≡ Refused r → judged s k valued c x ≡ refused r
-  judged-refused x r e = any-result x ∙ by-refusal x (judged s k valued c true) r e
+  judged-refused x r e = any-result x ∙ by-refusal (accepted x) (judged s k valued c true) r e
 
   module _ (ok : verdict-of (judged s k valued c true) ≡ Accepted) where
     pub judged-accepted : {A : Type 0} (x : A) → judged s k valued c x ≡ accepted x
-    judged-accepted x = any-result x ∙ by-none x (judged s k valued c true) ok
+    judged-accepted x = any-result x ∙ by-none (accepted x) (judged s k valued c true) ok
 
     -- every row was passed
     pub passed : (length (staying s k c) < most-versions) × (length (s .own-dots) < most-listed) × (own-base s < last-counter)

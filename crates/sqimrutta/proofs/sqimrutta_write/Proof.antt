@@ -1,0 +1,29 @@
+-- `sqimrutta::sqimrutta_write` meets its contract. The same as a number. Assumes nothing.
+use mathlib.Core.Path.{ap, _∙_}
+use Rattle.refusal.specs.Refusal.{answer-number}
+use borrow.Author.Needs.{needs}
+use Rattle.sqimrutta.proofs.sqimrutta_write.Statement.{statement}
+use Rattle.sqimrutta.proofs.sqimrutta_write.Tie as tie
+use Rattle.sqimrutta.proofs.sqimrutta_write.Reads as reads
+use Rattle.sqimrutta.proofs.sqimrutta_write.Lts as lts
+use Rattle.refusal.proofs.Verdict.number.Reads as number-reads
+use Rattle.sqimrutta.proofs.write.Reads as write-reads
+
+write-requires : tie.Need-write-requires
+write-requires c κs = search needs
+
+number-requires : tie.Need-number-requires
+number-requires c κs = search needs
+
+same-length : tie.Need-same-length
+same-length c = search needs
+
+same-length-2 : tie.Need-same-length-2
+same-length-2 c = search needs
+
+returns : tie.Need-returns
+returns c = (c .number .ensures ∙ ap answer-number (c .before .before .before .before .before .write .ensures .0), c .before .before .before .before .before .write .ensures .1, c .before .before .before .before .before .write .ensures .2)
+
+pub sqimrutta-write-spec : {M : Type 1} → statement M
+sqimrutta-write-spec =
+    tie.close (tie.spec write-requires number-requires same-length same-length-2 returns)
