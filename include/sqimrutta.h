@@ -2,8 +2,8 @@
  *
  * Every function here is proved to end with an answer on any bytes, lengths and numbers, to write only what its comment says, and to leave every
  * lent byte as it was when it refuses. It keeps nothing between calls, takes no memory but some hundred bytes of stack (docs/MEASURES.md), and needs
- * only `memset` of a C library. A pointer must be valid for the length that goes with it, also where that length is wrong; two buffers of one call
- * must not overlap.
+ * only `memset` and `memcpy` of a C library. A pointer must be valid for the length that goes with it, also where that length is wrong; two buffers
+ * of one call must not overlap.
  *
  * Link with libsqimrutta.a, which `rt staticlib sqimrutta` writes to target/staticlib. */
 
@@ -17,11 +17,13 @@
 extern "C" {
 #endif
 
-/* Lengths in bytes. */
+/* Lengths, in bytes but for the context's. */
 enum {
-    SQIMRUTTA_BLOCK = 512,          /* a block; a reading is one */
+    SQIMRUTTA_BLOCK = 512,          /* a block; a reading is one, and so is the message of a write or deletion */
     SQIMRUTTA_IMAGE = 67 * 512,     /* an image: what the handheld stores */
-    SQIMRUTTA_TABLE = 8             /* the crew table: a byte for each job 0..7, bit n-1 says that controller n holds it */
+    SQIMRUTTA_TABLE = 8,            /* the crew table: a byte for each job 0..7, bit n-1 says that controller n holds it */
+    SQIMRUTTA_CONTEXT = 8,          /* a context, in counters: one for each controller, the first for controller 1 */
+    SQIMRUTTA_VALUE = 24            /* the longest value; one of no bytes is a value, too */
 };
 
 /* What a call returns: 0, or the first of these that applies, in this order. A refused call has changed nothing. */
@@ -55,6 +57,28 @@ uint32_t sqimrutta_start(uint8_t *image, size_t image_len, uint8_t number, const
  * on 32 bytes each: controller, length, two zeros, counter (4), value. Bytes 8-39 are the context, eight counters of 4, which a write that
  * replaces these versions gives back. Little-endian. Refusals 1, 2, 5. */
 uint32_t sqimrutta_read(const uint8_t *image, size_t image_len, uint8_t job, uint16_t point, uint8_t *out, size_t out_len);
+
+/* Writes `value` (`value_len` bytes, 0..SQIMRUTTA_VALUE) to the point (job 0..7, point 1..65535).
+ *
+ * `context` (`context_len` is SQIMRUTTA_CONTEXT) says what the user saw when he decided to write: the eight counters of bytes 8-39 of that reading,
+ * as numbers, or all zeros where nothing was read. The write replaces the versions that this context covers, and no others: what has come in since
+ * that reading is shown beside the new value. So give the context of the reading that stood on the screen, not of one made since. A context above
+ * the present reading's in any entry is none that this image has shown for the point: refusal 8.
+ *
+ * Afterwards `out` (SQIMRUTTA_BLOCK bytes) holds the outgoing message, a block of kind 4. Store the image to flash before the message is sent: if a
+ * reset took back a write that peers have, its counter would go to another write. Then send the message by radio to every peer, which is every
+ * controller that shares a job with this one. It may be lost, come again, or come late; a repair brings what was lost.
+ *
+ * After refusal 12, let the user see the present reading, whose context covers all versions; after 14, repair with the peers.
+ * Refusals 1, 2, 5, 7, 8, 12, 13, 14, 15. */
+uint32_t sqimrutta_write(uint8_t *image, size_t image_len, uint8_t job, uint16_t point, const uint8_t *value, size_t value_len,
+                         const uint32_t *context, size_t context_len, uint8_t *out, size_t out_len);
+
+/* Deletes what the user saw of the point (job 0..7, point 1..65535). `context` and `out` are as for sqimrutta_write, and so is what to do with the
+ * image and the message; but the new version is "deleted" and never shown. Versions that the context does not cover stay. A point without a record
+ * may be deleted, too: it gets none, but the deletion takes a counter and has its message. Refusals 1, 2, 5, 8, 12, 14, 15. */
+uint32_t sqimrutta_delete(uint8_t *image, size_t image_len, uint8_t job, uint16_t point, const uint32_t *context, size_t context_len,
+                          uint8_t *out, size_t out_len);
 
 /* Frees what is known by now; changes no reading. `*count` is the number of records gone, 0 where it is refused. Refusals 1, 2. */
 uint32_t sqimrutta_strip_pass(uint8_t *image, size_t image_len, uint32_t *count);

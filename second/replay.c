@@ -12,11 +12,7 @@
 #include "../include/sqimrutta.h"
 #include "stream.h"
 
-/* The calls that the header has not yet. A slice is a pointer and a size_t; a context's length is its number of counters. */
-uint32_t sqimrutta_write(uint8_t *image, size_t image_len, uint8_t job, uint16_t point, const uint8_t *value,
-                         size_t value_len, const uint32_t *context, size_t context_len, uint8_t *out, size_t out_len);
-uint32_t sqimrutta_delete(uint8_t *image, size_t image_len, uint8_t job, uint16_t point, const uint32_t *context,
-                          size_t context_len, uint8_t *out, size_t out_len);
+/* The calls that the header has not yet. A slice is a pointer and a size_t. */
 uint32_t sqimrutta_take_in(uint8_t *image, size_t image_len, const uint8_t *message, size_t message_len);
 uint32_t sqimrutta_ask(const uint8_t *image, size_t image_len, uint8_t to, uint8_t *out, size_t out_len);
 uint32_t sqimrutta_reply(const uint8_t *image, size_t image_len, const uint8_t *ask, size_t ask_len, uint8_t *out,
