@@ -11,7 +11,7 @@
 uint32_t bare_checks(const uint8_t *image);
 uint32_t bare_checks_unrolled(const uint8_t *image);
 
-enum { IMAGE = SQIMRUTTA_IMAGE };
+enum { IMAGE = SQIMRUTTA_IMAGE, IMAGES = 3 };
 
 static uint8_t fresh[IMAGE], one[IMAGE], eight[IMAGE];
 
@@ -21,24 +21,20 @@ APART uint32_t good_fresh(void) { return sqimrutta_good(fresh, IMAGE); }
 APART uint32_t good_one(void) { return sqimrutta_good(one, IMAGE); }
 APART uint32_t good_eight(void) { return sqimrutta_good(eight, IMAGE); }
 
-/* The next image of the stream. */
-static void next_image(uint8_t *to) {
-    uint8_t head[16];
-    for (take(head, 16); head[0] != 10; take(head, 16))
-        other(head);
-    if (lengths[head[2]] != IMAGE)
+/* The first goes to fresh, the second to one, the third to eight. */
+static void keep(const uint8_t *head) {
+    static uint8_t *const to[IMAGES] = {fresh, one, eight};
+    if (answered > IMAGES)
+        broken("the number of calls and questions");
+    if (head[2] >= SLOTS || lengths[head[2]] != IMAGE)
         broken("an image of another length");
-    memcpy(to, slots[head[2]], IMAGE);
+    memcpy(to[answered - 1], slots[head[2]], IMAGE);
 }
 
 int main(void) {
-    uint8_t head[16];
-    open_stream();
-    next_image(fresh);
-    next_image(one);
-    next_image(eight);
-    take(head, 16);
-    at_end(head, 3);
+    each_record(10, 10, keep);
+    if (answered < IMAGES)
+        broken("the number of calls and questions");
     printf("good: fresh %u, one version %u, eight versions %u; right checks: %u %u\n", good_fresh(), good_one(),
            good_eight(), bare_checks(one), bare_checks_unrolled(one));
     return 0;

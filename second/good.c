@@ -46,9 +46,8 @@ static void question(const uint8_t *head) {
     int kept = memcmp(image, slots[slot], lengths[slot]) == 0;
     free(image);
     if (good != recorded || !kept) {
-        printf("image %llu (%s, %zu bytes): good is %u, recorded is %u%s\n",
-               (unsigned long long)(total[0] + total[1] + 1), label, lengths[slot], good, recorded,
-               kept ? "" : "; and the image was changed");
+        printf("image %llu (%s, %zu bytes): good is %u, recorded is %u%s\n", (unsigned long long)answered, label,
+               lengths[slot], good, recorded, kept ? "" : "; and the image was changed");
         exit(1);
     }
     count(good);
@@ -58,23 +57,12 @@ static void report(void) {
     for (size_t kind = 0; kind < known; kind++)
         printf("%-64s good %8llu not good %8llu\n", kinds[kind].name, (unsigned long long)kinds[kind].times[1],
                (unsigned long long)kinds[kind].times[0]);
-    printf("%llu images, %llu good, %llu not good, no difference\n", (unsigned long long)(total[0] + total[1]),
+    printf("%llu images, %llu good, %llu not good, no difference\n", (unsigned long long)answered,
            (unsigned long long)total[1], (unsigned long long)total[0]);
 }
 
 int main(void) {
-    uint8_t head[16];
-    open_stream();
-    for (;;) {
-        take(head, 16);
-        if (head[0] == 0) {
-            at_end(head, total[0] + total[1]);
-            report();
-            return 0;
-        }
-        if (head[0] == 10)
-            question(head);
-        else
-            other(head);
-    }
+    each_record(10, 10, question);
+    report();
+    return 0;
 }

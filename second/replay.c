@@ -28,11 +28,11 @@ uint32_t sqimrutta_repair(uint8_t *image, size_t image_len, const uint8_t *reply
 /* The working buffers: image, input, context, buffer to write to. */
 static uint8_t work[4][SLOT_BYTES];
 static uint32_t counters[SLOT_BYTES / 4];
-static uint64_t calls, passed_over;
+static uint64_t passed_over;
 
 static void mismatch(const uint8_t *head, const char *what, unsigned long is, unsigned long must) {
-    printf("call %llu (number %u, about: %s): %s: is %lu, recorded is %lu\n", (unsigned long long)calls, head[0], label,
-           what, is, must);
+    printf("call %llu (number %u, about: %s): %s: is %lu, recorded is %lu\n", (unsigned long long)answered, head[0],
+           label, what, is, must);
     exit(1);
 }
 
@@ -82,7 +82,6 @@ static void call(const uint8_t *head) {
             broken("a call's change");
         other(patch);
     }
-    calls++;
     if (!HAS(head[0])) {
         passed_over++;
         return;
@@ -106,19 +105,8 @@ static void call(const uint8_t *head) {
 }
 
 int main(void) {
-    uint8_t head[16];
-    open_stream();
-    for (;;) {
-        take(head, 16);
-        if (head[0] == 0) {
-            at_end(head, calls);
-            printf("%llu calls, %llu of them passed over, no mismatch\n", (unsigned long long)calls,
-                   (unsigned long long)passed_over);
-            return 0;
-        }
-        if (head[0] <= 9)
-            call(head);
-        else
-            other(head);
-    }
+    each_record(1, 9, call);
+    printf("%llu calls, %llu of them passed over, no mismatch\n", (unsigned long long)answered,
+           (unsigned long long)passed_over);
+    return 0;
 }

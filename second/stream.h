@@ -10,6 +10,8 @@ enum { SLOTS = 64, SLOT_BYTES = 65536, NO_SLOT = 255 };
 static uint8_t slots[SLOTS][SLOT_BYTES];
 static size_t lengths[SLOTS];
 static char label[SLOT_BYTES + 1];
+/* The calls or questions so far, the one at hand included. */
+static uint64_t answered;
 
 static void broken(const char *what) {
     fprintf(stderr, "not a whole stream: %s\n", what);
@@ -69,9 +71,24 @@ static void other(const uint8_t *head) {
     }
 }
 
-/* What follows must be the end, and tell the number of calls and questions that were read. */
-static void at_end(const uint8_t *head, uint64_t read) {
+/* The end must tell the number of calls and questions that were read. */
+static void at_end(const uint8_t *head) {
     uint64_t recorded = (uint64_t)number(head + 12, 4) << 32 | number(head + 8, 4);
-    if (head[0] != 0 || recorded != read)
+    if (recorded != answered)
         broken("the number of calls and questions");
+}
+
+/* Reads the stream to its end. The records whose first byte is in first..last are the calls or questions: `answer` gets their heads. */
+static void each_record(uint8_t first, uint8_t last, void (*answer)(const uint8_t *head)) {
+    uint8_t head[16];
+    open_stream();
+    for (take(head, 16); head[0] != 0; take(head, 16)) {
+        if (first <= head[0] && head[0] <= last) {
+            answered++;
+            answer(head);
+        } else {
+            other(head);
+        }
+    }
+    at_end(head);
 }
