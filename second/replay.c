@@ -1,5 +1,6 @@
 /* Reads a stream of recorded calls (CASES.md) from standard input, makes them through the exported C functions of the
- * library to be compared, and compares answer, count and every byte of every lent buffer.
+ * library to be compared, and compares answer, count and every byte of every lent buffer. It prints how many calls of each kind
+ * gave which answer.
  *
  *     cc -O2 -o replay-c replay.c -L FOLDER -l LIBRARY
  *     second cases --seed 1 --count 1000000 | ./replay-c
@@ -29,6 +30,11 @@ uint32_t sqimrutta_repair(uint8_t *image, size_t image_len, const uint8_t *reply
 static uint8_t work[4][SLOT_BYTES];
 static uint32_t counters[SLOT_BYTES / 4];
 static uint64_t passed_over;
+
+static const char *const call_names[10] = {"",        "start", "read",  "write",  "delete",
+                                           "take_in", "ask",   "reply", "repair", "strip_pass"};
+/* How many calls that were made gave which answer, by the bytes of a call's head that tell both. */
+static uint64_t given[10][256];
 
 static void mismatch(const uint8_t *head, const char *what, unsigned long is, unsigned long must) {
     printf("call %llu (number %u, about: %s): %s: is %lu, recorded is %lu\n", (unsigned long long)answered, head[0],
@@ -102,10 +108,31 @@ static void call(const uint8_t *head) {
         fprintf(stderr, "at byte %zu:\n", at);
         mismatch(head, names[i], work[i][at], must[at]);
     }
+    given[head[0]][head[1]]++;
+}
+
+/* One line for each call that was made: how often, and how many times it gave each of its answers. */
+static void report_call(int call) {
+    uint64_t made = 0;
+    for (int answer = 0; answer < 256; answer++)
+        made += given[call][answer];
+    if (made == 0)
+        return;
+    printf("%s: %llu calls; answer", call_names[call], (unsigned long long)made);
+    const char *between = " ";
+    for (int answer = 0; answer < 256; answer++) {
+        if (given[call][answer] == 0)
+            continue;
+        printf("%s%d: %llu", between, answer, (unsigned long long)given[call][answer]);
+        between = ", ";
+    }
+    printf("\n");
 }
 
 int main(void) {
     each_record(1, 9, call);
+    for (int made = 1; made <= 9; made++)
+        report_call(made);
     printf("%llu calls, %llu of them passed over, no mismatch\n", (unsigned long long)answered,
            (unsigned long long)passed_over);
     return 0;
