@@ -4,3 +4,4 @@ pub mod Ladder
 pub mod Reading
 pub mod Writing
 pub mod StripPass
+pub mod OneAnswer

@@ -4,12 +4,13 @@ use numbers::Point;
 use refusal::Refusal;
 use refusal::Verdict;
 ghost use mathlib.Core.Path.{_≡_};
-ghost use Prim.Native.Nat.{_≤_, _<_};
+ghost use Prim.Native.Nat.{_<_};
 ghost use mathlib.Core.Bool.{true, _&&_};
 ghost use mathlib.Core.List.{[]};
 ghost use lib.ListN.{length};
 ghost use lib.Dec.{eqb};
 ghost use Rattle.numbers.specs.Numbers.{controller, Crew};
+ghost use Rattle.numbers.specs.Key.{key};
 ghost use Rattle.numbers.specs.Words.{if_then_else_};
 ghost use Rattle.refusal.specs.Refusal.{answer-number};
 ghost use Rattle.meaning.specs.State.{local};
@@ -17,8 +18,9 @@ ghost use Rattle.meaning.specs.OwnSteps.{fresh, ours, shown, strip-pass};
 ghost use Rattle.layout.specs.Clocks.{decode-clock};
 ghost use Rattle.layout.specs.Image.{image-length, head-of, encode-head, encode-dots, encode, decode, goodImage};
 ghost use Rattle.layout.specs.Messages.{encode-reading};
-ghost use Rattle.layout.specs.Calls.{one-block, start-call, read-call, write-call, delete-call, strip-pass-call};
+ghost use Rattle.layout.specs.Calls.{one-block};
 ghost use Rattle.writing.specs.Judged.{verdict-of};
+ghost use Rattle.sqimrutta.specs.Contracts.{Starts, Reads, Writes, Deletes, Strips};
 ghost use Rattle.sqimrutta.specs.Admitted.{admitted};
 
 // A fresh head: the own number and the table, and nothing seen.
@@ -58,7 +60,7 @@ fn write_fresh(image: &mut [u8], number: u8, table: &[u8])
 }
 
 pub fn start(image: &mut [u8], number: u8, table: &[u8]) -> Verdict
-    ensures { λ r. ⌜ (r ≡ start-call (now (image .entry)) number (now (table .entry)) .verdict) × (now (image .exit) ≡ start-call (now (image .entry)) number (now (table .entry)) .image) ⌝ }
+    ensures { λ r. ⌜ Starts (λ v. v) (now (image .entry)) number (now (table .entry)) r (now (image .exit)) ⌝ }
 {
     if image.len() != 34304 {
         return Verdict::Refused(Refusal::WrongLength);
@@ -79,7 +81,7 @@ pub fn start(image: &mut [u8], number: u8, table: &[u8]) -> Verdict
 // For C: a slice is a pointer and a size_t. "An accepted call returns 0", a refused one the refusal's number.
 #[no_mangle]
 pub extern "C" fn sqimrutta_start(image: &mut [u8], number: u8, table: &[u8]) -> u32
-    ensures { λ r. ⌜ (r ≡ answer-number (start-call (now (image .entry)) number (now (table .entry)) .verdict)) × (now (image .exit) ≡ start-call (now (image .entry)) number (now (table .entry)) .image) ⌝ }
+    ensures { λ r. ⌜ Starts answer-number (now (image .entry)) number (now (table .entry)) r (now (image .exit)) ⌝ }
 {
     start(image, number, table).number()
 }
@@ -96,6 +98,16 @@ pub extern "C" fn sqimrutta_good(image: &[u8]) -> u32
 }
 
 // ---- what a call on a point begins with
+
+// The point that two numbers name.
+fn named(job: u8, point: u16) -> Key
+    ensures { λ r. ⌜ r ≡ key job point ⌝ }
+{
+    Key {
+        job: job,
+        point: Point(point),
+    }
+}
 
 // 5: the arguments are in their ranges, and the job is held here.
 fn is_ours(image: &[u8], k: Key) -> bool
@@ -147,12 +159,9 @@ fn write_reading(image: &[u8], k: Key, out: &mut [u8])
 }
 
 pub fn read(image: &[u8], job: u8, point: u16, out: &mut [u8]) -> Verdict
-    ensures { λ r. ⌜ (r ≡ read-call (now (image .entry)) job point (now (out .entry)) .verdict) × (now (out .exit) ≡ read-call (now (image .entry)) job point (now (out .entry)) .out) ⌝ }
+    ensures { λ r. ⌜ Reads (λ v. v) (now (image .entry)) job point (now (out .entry)) r (now (out .exit)) ⌝ }
 {
-    let k = Key {
-        job: job,
-        point: Point(point),
-    };
+    let k = named(job, point);
     match admit(image, out.len() == 512, k) {
         Verdict::Refused(r) => Verdict::Refused(r),
         Verdict::Accepted => {
@@ -164,7 +173,7 @@ pub fn read(image: &[u8], job: u8, point: u16, out: &mut [u8]) -> Verdict
 
 #[no_mangle]
 pub extern "C" fn sqimrutta_read(image: &[u8], job: u8, point: u16, out: &mut [u8]) -> u32
-    ensures { λ r. ⌜ (r ≡ answer-number (read-call (now (image .entry)) job point (now (out .entry)) .verdict)) × (now (out .exit) ≡ read-call (now (image .entry)) job point (now (out .entry)) .out) ⌝ }
+    ensures { λ r. ⌜ Reads answer-number (now (image .entry)) job point (now (out .entry)) r (now (out .exit)) ⌝ }
 {
     read(image, job, point, out).number()
 }
@@ -186,14 +195,9 @@ pub fn write(
     context: &[u32],
     out: &mut [u8],
 ) -> Verdict
-    ensures { λ r. ⌜ (r ≡ write-call (now (image .entry)) job point (now (value .entry)) (now (context .entry)) (now (out .entry)) .verdict)
-        × (now (image .exit) ≡ write-call (now (image .entry)) job point (now (value .entry)) (now (context .entry)) (now (out .entry)) .image)
-        × (now (out .exit) ≡ write-call (now (image .entry)) job point (now (value .entry)) (now (context .entry)) (now (out .entry)) .out) ⌝ }
+    ensures { λ r. ⌜ Writes (λ v. v) (now (image .entry)) job point (now (value .entry)) (now (context .entry)) (now (out .entry)) r (now (image .exit)) (now (out .exit)) ⌝ }
 {
-    let k = Key {
-        job: job,
-        point: Point(point),
-    };
+    let k = named(job, point);
     match admit(image, lengths_right(context, out), k) {
         Verdict::Refused(r) => Verdict::Refused(r),
         Verdict::Accepted => writing::write_at(image, k, value, context, out),
@@ -201,14 +205,9 @@ pub fn write(
 }
 
 pub fn delete(image: &mut [u8], job: u8, point: u16, context: &[u32], out: &mut [u8]) -> Verdict
-    ensures { λ r. ⌜ (r ≡ delete-call (now (image .entry)) job point (now (context .entry)) (now (out .entry)) .verdict)
-        × (now (image .exit) ≡ delete-call (now (image .entry)) job point (now (context .entry)) (now (out .entry)) .image)
-        × (now (out .exit) ≡ delete-call (now (image .entry)) job point (now (context .entry)) (now (out .entry)) .out) ⌝ }
+    ensures { λ r. ⌜ Deletes (λ v. v) (now (image .entry)) job point (now (context .entry)) (now (out .entry)) r (now (image .exit)) (now (out .exit)) ⌝ }
 {
-    let k = Key {
-        job: job,
-        point: Point(point),
-    };
+    let k = named(job, point);
     match admit(image, lengths_right(context, out), k) {
         Verdict::Refused(r) => Verdict::Refused(r),
         Verdict::Accepted => writing::delete_at(image, k, context, out),
@@ -224,9 +223,7 @@ pub extern "C" fn sqimrutta_write(
     context: &[u32],
     out: &mut [u8],
 ) -> u32
-    ensures { λ r. ⌜ (r ≡ answer-number (write-call (now (image .entry)) job point (now (value .entry)) (now (context .entry)) (now (out .entry)) .verdict))
-        × (now (image .exit) ≡ write-call (now (image .entry)) job point (now (value .entry)) (now (context .entry)) (now (out .entry)) .image)
-        × (now (out .exit) ≡ write-call (now (image .entry)) job point (now (value .entry)) (now (context .entry)) (now (out .entry)) .out) ⌝ }
+    ensures { λ r. ⌜ Writes answer-number (now (image .entry)) job point (now (value .entry)) (now (context .entry)) (now (out .entry)) r (now (image .exit)) (now (out .exit)) ⌝ }
 {
     write(image, job, point, value, context, out).number()
 }
@@ -239,9 +236,7 @@ pub extern "C" fn sqimrutta_delete(
     context: &[u32],
     out: &mut [u8],
 ) -> u32
-    ensures { λ r. ⌜ (r ≡ answer-number (delete-call (now (image .entry)) job point (now (context .entry)) (now (out .entry)) .verdict))
-        × (now (image .exit) ≡ delete-call (now (image .entry)) job point (now (context .entry)) (now (out .entry)) .image)
-        × (now (out .exit) ≡ delete-call (now (image .entry)) job point (now (context .entry)) (now (out .entry)) .out) ⌝ }
+    ensures { λ r. ⌜ Deletes answer-number (now (image .entry)) job point (now (context .entry)) (now (out .entry)) r (now (image .exit)) (now (out .exit)) ⌝ }
 {
     delete(image, job, point, context, out).number()
 }
@@ -273,7 +268,7 @@ fn strip_all(image: &mut [u8], rows: &[u8]) -> u32
 }
 
 pub fn strip_pass(image: &mut [u8]) -> Tally
-    ensures { λ r. ⌜ (r .verdict ≡ strip-pass-call (now (image .entry)) .verdict) × (r .count ≡ strip-pass-call (now (image .entry)) .count) × (now (image .exit) ≡ strip-pass-call (now (image .entry)) .image) ⌝ }
+    ensures { λ r. ⌜ Strips (λ v. v) (now (image .entry)) (r .verdict) (now (image .exit)) (r .count) ⌝ }
 {
     if image.len() != 34304 {
         return Tally {
@@ -298,7 +293,7 @@ pub fn strip_pass(image: &mut [u8]) -> Tally
 
 #[no_mangle]
 pub extern "C" fn sqimrutta_strip_pass(image: &mut [u8], count: &mut u32) -> u32
-    ensures { λ r. ⌜ (r ≡ answer-number (strip-pass-call (now (image .entry)) .verdict)) × (now (image .exit) ≡ strip-pass-call (now (image .entry)) .image) × (now (count .exit) ≡ strip-pass-call (now (image .entry)) .count) ⌝ }
+    ensures { λ r. ⌜ Strips answer-number (now (image .entry)) r (now (image .exit)) (now (count .exit)) ⌝ }
 {
     let t = strip_pass(image);
     *count = t.count;

@@ -19,7 +19,7 @@ same-length : tie.Need-same-length
 same-length c = search needs
 
 returns : tie.Need-returns
-returns c = let e = c .before .before .before .strip-pass .ensures in (c .number .ensures ∙ ap answer-number (e .0), e .2, e .1)
+returns c = let e = c .before .before .before .strip-pass .ensures in (c .number .ensures ∙ ap answer-number (e .0), e .1, e .2)
 
 pub sqimrutta-strip-pass-spec : {M : Type 1} → statement M
 sqimrutta-strip-pass-spec =

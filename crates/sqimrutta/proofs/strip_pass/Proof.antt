@@ -17,7 +17,7 @@ use Rattle.image.proofs.good.Reads as good-reads
 use Rattle.sqimrutta.proofs.strip_all.Reads as strip-all-reads
 
 returns : tie.Need-returns
-returns c = let e = strip-wrong-image (now (c .before .before .args .image)) (c .if1 .taken) in (sym (ap (λ (a : After). a .verdict) e), sym (ap (λ (a : After). a .count) e), sym (ap (λ (a : After). a .image) e))
+returns c = let e = strip-wrong-image (now (c .before .before .args .image)) (c .if1 .taken) in (sym (ap (λ (a : After). a .verdict) e), sym (ap (λ (a : After). a .image) e), sym (ap (λ (a : After). a .count) e))
 
 good-requires : tie.Need-good-requires
 good-requires c κs = search needs
@@ -26,7 +26,7 @@ same-length : tie.Need-same-length
 same-length c = search needs
 
 returns-2 : tie.Need-returns-2
-returns-2 c = let e = strip-not-good (now (c .before .before .before .before .before .args .image)) (omega arith) (sym (c .before .good2 .ensures) ∙ not-true _ (c .if2 .taken)) in (sym (ap (λ (a : After). a .verdict) e), sym (ap (λ (a : After). a .count) e), sym (ap (λ (a : After). a .image) e))
+returns-2 c = let e = strip-not-good (now (c .before .before .before .before .before .args .image)) (omega arith) (sym (c .before .good2 .ensures) ∙ not-true _ (c .if2 .taken)) in (sym (ap (λ (a : After). a .verdict) e), sym (ap (λ (a : After). a .image) e), sym (ap (λ (a : After). a .count) e))
 
 slice-aggregate-copy-in : tie.Need-slice-aggregate-copy-in
 slice-aggregate-copy-in c = search needs
@@ -53,7 +53,7 @@ same-length-2 : tie.Need-same-length-2
 same-length-2 c = search needs
 
 returns-3 : tie.Need-returns-3
-returns-3 c = let e = strip-passed (now (c .before .before .before .before .before .before .before .before .before .before .before .before .before .before .before .args .image)) (omega arith) (sym (c .before .before .before .before .before .before .before .before .before .before .before .good2 .ensures) ∙ not-false _ (c .before .before .before .before .before .before .before .before .before .before .if2 .left)) in (sym (ap (λ (a : After). a .verdict) e), c .before .before .strip-all .ensures .0 ∙ sym (ap (λ (a : After). a .count) e), c .before .before .strip-all .ensures .1 ∙ sym (ap (λ (a : After). a .image) e))
+returns-3 c = let e = strip-passed (now (c .before .before .before .before .before .before .before .before .before .before .before .before .before .before .before .args .image)) (omega arith) (sym (c .before .before .before .before .before .before .before .before .before .before .before .good2 .ensures) ∙ not-false _ (c .before .before .before .before .before .before .before .before .before .before .if2 .left)) in (sym (ap (λ (a : After). a .verdict) e), c .before .before .strip-all .ensures .1 ∙ sym (ap (λ (a : After). a .image) e), c .before .before .strip-all .ensures .0 ∙ sym (ap (λ (a : After). a .count) e))
 
 pub strip-pass-spec : {M : Type 1} → statement M
 strip-pass-spec =
