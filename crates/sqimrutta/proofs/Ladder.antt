@@ -18,7 +18,7 @@ use Rattle.layout.specs.Image.{image-length, decode, goodImage}
 use Rattle.layout.specs.Calls.{Left, After, afterwards, whole-image, on-image}
 use Rattle.writing.specs.Judged.{verdict-of}
 use Rattle.writing.proofs.Accepted.{then, by-refusal, by-none, accepted-with}
-use Rattle.sqimrutta.specs.Admitted.{admitted}
+use Rattle.sqimrutta.specs.Admitted.{opened, admitted}
 
 -- refused with r, and all as it was
 abbrev pub leaves : Refusal → List ℕ → List ℕ → After
@@ -51,53 +51,113 @@ module _ (others : Bool) (img : List ℕ) (step : State → Answer Left) where
     unfolding on-image refuse_when_else_
     goes-on h g = rw (right h, g)
 
--- ---- rows 1, 2 and 5
+-- ---- rows 1 and 2 as a verdict
 
-module _ (img : List ℕ) (lengths : Bool) (k : Key) where
-  pub no-image : (length img ≡ image-length → ⊥) → Refused WrongLength ≡ verdict-of (admitted img lengths k)
-  unfolding admitted refuse_when_else_
+module _ (img : List ℕ) (lengths : Bool) where
+  abbrev opens : Answer Bool
+  opens = opened img lengths (accepted true)
+
+  pub no-image : (length img ≡ image-length → ⊥) → Refused WrongLength ≡ verdict-of (opened img lengths (accepted true))
+  unfolding opened refuse_when_else_
   no-image h = sym (rw (ap (λ (b : Bool). b && lengths) (ne-eqb (length img) image-length h)))
 
   module _ (size : length img ≡ image-length) where
     whole : (whole-image img && lengths) ≡ lengths
     whole = ap (λ (b : Bool). b && lengths) (eq-eqb (length img) image-length size)
 
-    pub no-buffer : lengths ≡ false → Refused WrongLength ≡ verdict-of (admitted img lengths k)
-    unfolding admitted refuse_when_else_
+    pub no-buffer : lengths ≡ false → Refused WrongLength ≡ verdict-of (opened img lengths (accepted true))
+    unfolding opened refuse_when_else_
     no-buffer h = sym (rw (whole ∙ h))
 
     module _ (right : lengths ≡ true) where
-      pub bad-image : goodImage img ≡ false → Refused ImageNotGood ≡ verdict-of (admitted img lengths k)
-      unfolding admitted refuse_when_else_
+      pub bad-image : goodImage img ≡ false → Refused ImageNotGood ≡ verdict-of (opened img lengths (accepted true))
+      unfolding opened refuse_when_else_
       bad-image h = sym (rw (whole ∙ right, h))
 
-      module _ (good : goodImage img ≡ true) where
-        pub not-ours : ours (decode img) k ≡ false → Refused OutOfRange ≡ verdict-of (admitted img lengths k)
-        unfolding admitted refuse_when_else_
-        not-ours h = sym (rw (whole ∙ right, good, h))
+      pub may-open : goodImage img ≡ true → Accepted ≡ verdict-of (opened img lengths (accepted true))
+      unfolding opened refuse_when_else_
+      may-open h = sym (rw (whole ∙ right, h))
 
-        pub may-go-on : ours (decode img) k ≡ true → Accepted ≡ verdict-of (admitted img lengths k)
-        unfolding admitted refuse_when_else_
-        may-go-on h = sym (rw (whole ∙ right, good, h))
+  -- whatever follows them
+  same-rows : {A : Type 0} (a g : Bool) (x : Answer A)
+      → (refuse WrongLength when not a else refuse ImageNotGood when not g else x) ≡ then (refuse WrongLength when not a else refuse ImageNotGood when not g else accepted true) x
+  unfolding refuse_when_else_ then
+  same-rows false g x = refl
+  same-rows true false x = refl
+  same-rows true true x = refl
+
+  whatever : {A : Type 0} (x : Answer A) → opened img lengths x ≡ then (opened img lengths (accepted true)) x
+  unfolding opened
+  whatever x = same-rows (whole-image img && lengths) (goodImage img) x
+
+  pub opened-refused : {A : Type 0} (x : Answer A) (r : Refusal) → verdict-of (opened img lengths (accepted true)) ≡ Refused r → opened img lengths x ≡ refused r
+  opened-refused x r e = whatever x ∙ by-refusal x opens r e
+
+  pub opened-then : {A : Type 0} (x : Answer A) → verdict-of (opened img lengths (accepted true)) ≡ Accepted → opened img lengths x ≡ x
+  opened-then x e = whatever x ∙ by-none x opens e
+
+  pub record Opened : Type 0 where
+    pub size : length img ≡ image-length
+    pub right : lengths ≡ true
+    pub good : goodImage img ≡ true
+
+  pub what-is-opened : verdict-of (opened img lengths (accepted true)) ≡ Accepted → Opened
+  unfolding opened
+  what-is-opened e =
+      let a = accepted-with opens e .1 in
+      let first = passes-not WrongLength (whole-image img && lengths) _ a in
+      let second = passes-not ImageNotGood (goodImage img) _ (first .1) in
+      record {
+        size = eqb-true (length img) image-length (and-left (whole-image img) lengths (first .0));
+        right = and-right (whole-image img) lengths (first .0);
+        good = second .0;
+      }
 
   -- ---- and what they say of a call
 
-  same-rows : (a g o : Bool) (x : Answer Left) → (o ≡ false → x ≡ refused OutOfRange)
-      → (refuse WrongLength when not a else refuse ImageNotGood when not g else x)
-      ≡ then (refuse WrongLength when not a else refuse ImageNotGood when not g else refuse OutOfRange when not o else accepted true) x
-  unfolding refuse_when_else_ then
-  same-rows false g o x h = refl
-  same-rows true false o x h = refl
-  same-rows true true false x h = h refl
-  same-rows true true true x h = refl
+  module _ (step : State → Answer Left) where
+    pub refused-first : (r : Refusal) → verdict-of (opened img lengths (accepted true)) ≡ Refused r → on-image lengths img step ≡ refused r
+    unfolding on-image opened
+    refused-first r e = opened-refused (step (decode img)) r e
+
+    pub opened-steps : verdict-of (opened img lengths (accepted true)) ≡ Accepted → on-image lengths img step ≡ step (decode img)
+    unfolding on-image opened
+    opened-steps e = opened-then (step (decode img)) e
+
+-- ---- rows 1, 2 and 5
+
+module _ (img : List ℕ) (lengths : Bool) (k : Key) where
+  abbrev fifth : Answer Bool
+  fifth = refuse OutOfRange when not (ours (decode img) k) else accepted true
+
+  pub not-admitted : (r : Refusal) → verdict-of (opened img lengths (accepted true)) ≡ Refused r → Refused r ≡ verdict-of (admitted img lengths k)
+  unfolding admitted
+  not-admitted r e = sym (ap verdict-of (opened-refused img lengths fifth r e))
+
+  module _ (ok : verdict-of (opened img lengths (accepted true)) ≡ Accepted) where
+    pub not-ours : ours (decode img) k ≡ false → Refused OutOfRange ≡ verdict-of (admitted img lengths k)
+    unfolding admitted refuse_when_else_
+    not-ours h = sym (ap verdict-of (opened-then img lengths fifth ok) ∙ ap (λ (o : Bool). verdict-of (refuse OutOfRange when not o else accepted true)) h)
+
+    pub may-go-on : ours (decode img) k ≡ true → Accepted ≡ verdict-of (admitted img lengths k)
+    unfolding admitted refuse_when_else_
+    may-go-on h = sym (ap verdict-of (opened-then img lengths fifth ok) ∙ ap (λ (o : Bool). verdict-of (refuse OutOfRange when not o else accepted true)) h)
 
   module _ (step : State → Answer Left) (asks : (s : State) → ours s k ≡ false → step s ≡ refused OutOfRange) where
     begins : on-image lengths img step ≡ then (admitted img lengths k) (step (decode img))
-    unfolding on-image admitted
-    begins = same-rows (whole-image img && lengths) (goodImage img) (ours (decode img) k) (step (decode img)) (asks (decode img))
+    unfolding on-image admitted opened then refuse_when_else_
+    begins = same-rows-5 (whole-image img && lengths) (goodImage img) (ours (decode img) k) (step (decode img)) (asks (decode img))
+      where
+        same-rows-5 : (a g o : Bool) (x : Answer Left) → (o ≡ false → x ≡ refused OutOfRange)
+            → (refuse WrongLength when not a else refuse ImageNotGood when not g else x)
+            ≡ then (refuse WrongLength when not a else refuse ImageNotGood when not g else refuse OutOfRange when not o else accepted true) x
+        same-rows-5 false g o x h = refl
+        same-rows-5 true false o x h = refl
+        same-rows-5 true true false x h = h refl
+        same-rows-5 true true true x h = refl
 
-    pub refused-first : (r : Refusal) → verdict-of (admitted img lengths k) ≡ Refused r → on-image lengths img step ≡ refused r
-    refused-first r e = begins ∙ by-refusal (step (decode img)) (admitted img lengths k) r e
+    pub not-admitted-first : (r : Refusal) → verdict-of (admitted img lengths k) ≡ Refused r → on-image lengths img step ≡ refused r
+    not-admitted-first r e = begins ∙ by-refusal (step (decode img)) (admitted img lengths k) r e
 
     pub admitted-then : verdict-of (admitted img lengths k) ≡ Accepted → on-image lengths img step ≡ step (decode img)
     admitted-then e = begins ∙ by-none (step (decode img)) (admitted img lengths k) e
@@ -109,7 +169,7 @@ module _ (img : List ℕ) (lengths : Bool) (k : Key) where
     pub mine : ours (decode img) k ≡ true
 
   pub what-is-admitted : verdict-of (admitted img lengths k) ≡ Accepted → Admitted
-  unfolding admitted
+  unfolding admitted opened
   what-is-admitted e =
       let a = accepted-with (admitted img lengths k) e .1 in
       let first = passes-not WrongLength (whole-image img && lengths) _ a in

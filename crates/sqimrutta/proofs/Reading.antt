@@ -32,7 +32,7 @@ use Rattle.record_edits.specs.Written.{Written, lay-point, point-block, with-ob
 use Rattle.store.proofs.Lent.{table-part, clock-part, own-part}
 use Rattle.writing.specs.Judged.{verdict-of}
 use Rattle.sqimrutta.specs.Admitted.{admitted}
-use Rattle.sqimrutta.proofs.Ladder.{leaves, refused-leaves, refused-first, admitted-then, what-is-admitted}
+use Rattle.sqimrutta.proofs.Ladder.{leaves, refused-leaves, not-admitted-first, admitted-then, what-is-admitted}
 
 -- ---- case by case
 
@@ -46,7 +46,7 @@ module _ (img : List ℕ) (job point : ℕ) (out : List ℕ) where
 
   pub read-refused : (r : Refusal) → verdict-of (admitted img (one-block out) (key job point)) ≡ Refused r → read-call img job point out ≡ leaves r img out
   unfolding read-call
-  read-refused r e = refused-leaves img out (on-image (one-block out) img step) r (refused-first img (one-block out) (key job point) step asks r e)
+  read-refused r e = refused-leaves img out (on-image (one-block out) img step) r (not-admitted-first img (one-block out) (key job point) step asks r e)
 
   pub read-shown : verdict-of (admitted img (one-block out) (key job point)) ≡ Accepted
       → read-call img job point out ≡ record { verdict = Accepted; image = img; out = encode-reading (record { sender = decode img .own; key = key job point; object = shown (local (decode img) (key job point)) }); count = 0 }

@@ -19,7 +19,7 @@ use Rattle.layout.specs.Calls.{Left, afterwards, one-block, on-image, write-cal
 use Rattle.writing.specs.Judged.{verdict-of}
 use Rattle.writing.specs.LeftBy.{left-by}
 use Rattle.sqimrutta.specs.Admitted.{admitted}
-use Rattle.sqimrutta.proofs.Ladder.{leaves, refused-leaves, refused-first, admitted-then}
+use Rattle.sqimrutta.proofs.Ladder.{leaves, refused-leaves, not-admitted-first, admitted-then}
 
 module _ (img : List ℕ) (job point : ℕ) (c out : List ℕ) where
   abbrev lengths : mathlib.Core.Bool.Bool
@@ -34,7 +34,7 @@ module _ (img : List ℕ) (job point : ℕ) (c out : List ℕ) where
     refuses s h = ap left-by (asks s h)
 
     not-admitted : (r : Refusal) → verdict-of (admitted img lengths (key job point)) ≡ Refused r → afterwards img out (on-image lengths img step) ≡ leaves r img out
-    not-admitted r e = refused-leaves img out (on-image lengths img step) r (refused-first img lengths (key job point) step refuses r e)
+    not-admitted r e = refused-leaves img out (on-image lengths img step) r (not-admitted-first img lengths (key job point) step refuses r e)
 
     goes-on : verdict-of (admitted img lengths (key job point)) ≡ Accepted → afterwards img out (on-image lengths img step) ≡ afterwards img out (left-by (does (decode img)))
     goes-on e = ap (afterwards img out) (admitted-then img lengths (key job point) step refuses e)

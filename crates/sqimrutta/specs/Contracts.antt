@@ -4,7 +4,7 @@ use Prim.Native.Nat.{ℕ}
 use mathlib.Core.Path.{_≡_}
 use mathlib.Core.List.{List}
 use Rattle.refusal.specs.declared.Verdict.{Verdict}
-use Rattle.layout.specs.Calls.{After, start-call, read-call, write-call, delete-call, strip-pass-call}
+use Rattle.layout.specs.Calls.{After, start-call, read-call, write-call, delete-call, ask-call, strip-pass-call}
 
 -- the answer and what stands in one buffer
 abbrev pub One : {A : Type 0} → (Verdict → A) → (After → List ℕ) → After → A → List ℕ → Type 0
@@ -29,6 +29,9 @@ Writes told image job point value context out = Two told (write-call image job p
 
 abbrev pub Deletes : {A : Type 0} → (Verdict → A) → List ℕ → ℕ → ℕ → List ℕ → List ℕ → A → List ℕ → List ℕ → Type 0
 Deletes told image job point context out = Two told (delete-call image job point context out)
+
+abbrev pub Asks : {A : Type 0} → (Verdict → A) → List ℕ → ℕ → List ℕ → A → List ℕ → Type 0
+Asks told image to out = One told (λ a. a .out) (ask-call image to out)
 
 abbrev pub Strips : {A : Type 0} → (Verdict → A) → List ℕ → A → List ℕ → ℕ → Type 0
 Strips told image = Counted told (strip-pass-call image)

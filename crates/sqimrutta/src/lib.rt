@@ -12,7 +12,7 @@ ghost use lib.Dec.{eqb};
 ghost use Rattle.numbers.specs.Numbers.{controller, Crew};
 ghost use Rattle.numbers.specs.Key.{key};
 ghost use Rattle.numbers.specs.Words.{if_then_else_};
-ghost use Rattle.refusal.specs.Refusal.{answer-number};
+ghost use Rattle.refusal.specs.Refusal.{accepted, answer-number};
 ghost use Rattle.meaning.specs.State.{local};
 ghost use Rattle.meaning.specs.OwnSteps.{fresh, ours, shown, strip-pass};
 ghost use Rattle.layout.specs.Clocks.{decode-clock};
@@ -20,8 +20,8 @@ ghost use Rattle.layout.specs.Image.{image-length, head-of, encode-head, encode
 ghost use Rattle.layout.specs.Messages.{encode-reading};
 ghost use Rattle.layout.specs.Calls.{one-block};
 ghost use Rattle.writing.specs.Judged.{verdict-of};
-ghost use Rattle.sqimrutta.specs.Contracts.{Starts, Reads, Writes, Deletes, Strips};
-ghost use Rattle.sqimrutta.specs.Admitted.{admitted};
+ghost use Rattle.sqimrutta.specs.Contracts.{Starts, Reads, Writes, Deletes, Asks, Strips};
+ghost use Rattle.sqimrutta.specs.Admitted.{opened, admitted};
 
 // A fresh head: the own number and the table, and nothing seen.
 fn write_fresh_head(b: &mut [u8], number: u8, table: &[u8])
@@ -124,9 +124,9 @@ fn is_ours(image: &[u8], k: Key) -> bool
     parts::holds(&image[8..16], head::own_of(&image[0..512]), job)
 }
 
-// Rows 1, 2 and 5 of the table. `lengths` says whether those of the buffers beside the image are right.
-fn admit(image: &[u8], lengths: bool, k: Key) -> Verdict
-    ensures { λ r. ⌜ r ≡ verdict-of (admitted (now (image .entry)) lengths k) ⌝ }
+// Rows 1 and 2 of the table. `lengths` says whether those of the buffers beside the image are right.
+fn opens(image: &[u8], lengths: bool) -> Verdict
+    ensures { λ r. ⌜ r ≡ verdict-of (opened (now (image .entry)) lengths (accepted true)) ⌝ }
 {
     if image.len() != 34304 {
         return Verdict::Refused(Refusal::WrongLength);
@@ -137,10 +137,22 @@ fn admit(image: &[u8], lengths: bool, k: Key) -> Verdict
     if !image::good(image) {
         return Verdict::Refused(Refusal::ImageNotGood);
     }
-    if !is_ours(image, k) {
-        return Verdict::Refused(Refusal::OutOfRange);
-    }
     Verdict::Accepted
+}
+
+// Rows 1, 2 and 5.
+fn admit(image: &[u8], lengths: bool, k: Key) -> Verdict
+    ensures { λ r. ⌜ r ≡ verdict-of (admitted (now (image .entry)) lengths k) ⌝ }
+{
+    match opens(image, lengths) {
+        Verdict::Refused(r) => Verdict::Refused(r),
+        Verdict::Accepted => {
+            if !is_ours(image, k) {
+                return Verdict::Refused(Refusal::OutOfRange);
+            }
+            Verdict::Accepted
+        }
+    }
 }
 
 // ---- reading
@@ -239,6 +251,24 @@ pub extern "C" fn sqimrutta_delete(
     ensures { λ r. ⌜ Deletes answer-number (now (image .entry)) job point (now (context .entry)) (now (out .entry)) r (now (image .exit)) (now (out .exit)) ⌝ }
 {
     delete(image, job, point, context, out).number()
+}
+
+// ---- asking
+
+pub fn ask(image: &[u8], to: u8, out: &mut [u8]) -> Verdict
+    ensures { λ r. ⌜ Asks (λ v. v) (now (image .entry)) to (now (out .entry)) r (now (out .exit)) ⌝ }
+{
+    match opens(image, out.len() == 512) {
+        Verdict::Refused(r) => Verdict::Refused(r),
+        Verdict::Accepted => exchange::ask_at(image, to, out),
+    }
+}
+
+#[no_mangle]
+pub extern "C" fn sqimrutta_ask(image: &[u8], to: u8, out: &mut [u8]) -> u32
+    ensures { λ r. ⌜ Asks answer-number (now (image .entry)) to (now (out .entry)) r (now (out .exit)) ⌝ }
+{
+    ask(image, to, out).number()
 }
 
 // ---- strip pass

@@ -1,40 +1,39 @@
--- `sqimrutta::admit` meets its contract. Row by row (Ladder). Assumes nothing.
+-- `sqimrutta::admit` meets its contract. Rows 1 and 2, and then 5 (Ladder). Assumes nothing.
 use denote.Ref.{now}
 use mathlib.Core.Path.{sym, _∙_}
-use native.Mathlib.Omega.{arith}
 use borrow.Author.Tests.{not-true, not-false}
 use Rattle.store.proofs.Lent.{own-is-crew}
-use Rattle.sqimrutta.proofs.Ladder.{no-image, no-buffer, bad-image, not-ours, may-go-on}
+use Rattle.sqimrutta.proofs.Ladder.{what-is-opened, not-admitted, not-ours, may-go-on}
 use borrow.Author.Needs.{needs}
 use Rattle.sqimrutta.proofs.admit.Statement.{statement}
 use Rattle.sqimrutta.proofs.admit.Tie as tie
 use Rattle.sqimrutta.proofs.admit.Reads as reads
 use Rattle.sqimrutta.proofs.admit.Lts as lts
-use Rattle.image.proofs.good.Reads as good-reads
 use Rattle.sqimrutta.proofs.is_ours.Reads as is-ours-reads
+use Rattle.sqimrutta.proofs.opens.Reads as opens-reads
 
-returns : tie.Need-returns
-returns c = no-image (now (c .before .before .args .image)) (c .before .before .args .lengths) (c .before .before .args .k) (c .if1 .taken)
+opens-requires : tie.Need-opens-requires
+opens-requires c κs = search needs
 
-returns-2 : tie.Need-returns-2
-returns-2 c = no-buffer (now (c .before .before .before .args .image)) (c .before .before .before .args .lengths) (c .before .before .before .args .k) (omega arith) (not-true _ (c .if2 .taken))
+enum-known-r : tie.Need-enum-known-r
+enum-known-r c = search needs
 
-good-requires : tie.Need-good-requires
-good-requires c κs = search needs
-
-returns-3 : tie.Need-returns-3
-returns-3 c = bad-image (now (c .before .before .before .before .before .args .image)) (c .before .before .before .before .before .args .lengths) (c .before .before .before .before .before .args .k) (omega arith) (not-false _ (c .before .before .if2 .left)) (sym (c .before .good2 .ensures) ∙ not-true _ (c .if3 .taken))
+enum-told : tie.Need-enum-told
+enum-told c = search needs
 
 is-ours-requires : tie.Need-is-ours-requires
-is-ours-requires c κs = (omega arith, own-is-crew (now (c .before .before .before .before .before .args .image)) (sym (c .before .good2 .ensures) ∙ not-false _ (c .if3 .left)))
+is-ours-requires c κs = (what-is-opened (now (c .before .before .before .before .args .image)) (c .before .before .before .before .args .lengths) (sym (c .before .before .opens .ensures) ∙ c .enum-told .given .1) .size, own-is-crew (now (c .before .before .before .before .args .image)) (what-is-opened (now (c .before .before .before .before .args .image)) (c .before .before .before .before .args .lengths) (sym (c .before .before .opens .ensures) ∙ c .enum-told .given .1) .good))
 
-returns-4 : tie.Need-returns-4
-returns-4 c = not-ours (now (c .before .before .before .before .before .before .before .args .image)) (c .before .before .before .before .before .before .before .args .lengths) (c .before .before .before .before .before .before .before .args .k) (omega arith) (not-false _ (c .before .before .before .before .if2 .left)) (sym (c .before .before .before .good2 .ensures) ∙ not-false _ (c .before .before .if3 .left)) (sym (c .before .is-ours .ensures) ∙ not-true _ (c .if4 .taken))
+returns : tie.Need-returns
+returns c = not-ours (now (c .before .before .before .before .before .before .args .image)) (c .before .before .before .before .before .before .args .lengths) (c .before .before .before .before .before .before .args .k) (sym (c .before .before .before .before .opens .ensures) ∙ c .before .before .enum-told .given .1) (sym (c .before .is-ours .ensures) ∙ not-true _ (c .if1 .taken))
 
-returns-5 : tie.Need-returns-5
-returns-5 c = may-go-on (now (c .before .before .before .before .before .before .before .args .image)) (c .before .before .before .before .before .before .before .args .lengths) (c .before .before .before .before .before .before .before .args .k) (omega arith) (not-false _ (c .before .before .before .before .if2 .left)) (sym (c .before .before .before .good2 .ensures) ∙ not-false _ (c .before .before .if3 .left)) (sym (c .before .is-ours .ensures) ∙ not-false _ (c .if4 .left))
+returns-2 : tie.Need-returns-2
+returns-2 c = not-admitted (now (c .before .before .before .before .before .args .image)) (c .before .before .before .before .before .args .lengths) (c .before .before .before .before .before .args .k) (c .before .r .given .0 .0) (sym (c .before .before .before .opens .ensures) ∙ c .before .r .given .1)
+
+returns-3 : tie.Need-returns-3
+returns-3 c = may-go-on (now (c .before .before .before .before .before .before .args .image)) (c .before .before .before .before .before .before .args .lengths) (c .before .before .before .before .before .before .args .k) (sym (c .before .before .before .before .opens .ensures) ∙ c .before .before .enum-told .given .1) (sym (c .before .is-ours .ensures) ∙ not-false _ (c .if1 .left))
 
 pub admit-spec : {M : Type 1} → statement M
 admit-spec =
     tie.close
-    (tie.spec returns returns-2 good-requires returns-3 is-ours-requires returns-4 returns-5)
+    (tie.spec opens-requires enum-known-r enum-told is-ours-requires returns returns-2 returns-3)
