@@ -1,2 +1,3 @@
 pub mod Stores
 pub mod Laid
+pub mod Formed

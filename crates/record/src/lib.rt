@@ -157,7 +157,7 @@ pub fn stored_laid_out(b: &[u8], position: u16) -> bool
 // ---- what is well-formed in a point, of refusal 4 and of a good state
 
 // "controllers 1..8"
-fn is_controller(n: Controller) -> bool
+pub fn is_controller(n: Controller) -> bool
     ensures { λ r. ⌜ r ≡ is-controller n ⌝ }
 {
     let who = n.0;
