@@ -80,6 +80,10 @@ uint32_t sqimrutta_write(uint8_t *image, size_t image_len, uint8_t job, uint16_t
 uint32_t sqimrutta_delete(uint8_t *image, size_t image_len, uint8_t job, uint16_t point, const uint32_t *context, size_t context_len,
                           uint8_t *out, size_t out_len);
 
+/* Asks the peer `to`, 1..8, for what this handheld lacks: a block of kind 5 in `out` (SQIMRUTTA_BLOCK bytes) with the own clock, to be sent to that peer alone. It changes
+ * nothing in the image, so it may be lost or sent again. Refusals 1, 2, 5, 6. */
+uint32_t sqimrutta_ask(const uint8_t *image, size_t image_len, uint8_t to, uint8_t *out, size_t out_len);
+
 /* Frees what is known by now; changes no reading. `*count` is the number of records gone, 0 where it is refused. Refusals 1, 2. */
 uint32_t sqimrutta_strip_pass(uint8_t *image, size_t image_len, uint32_t *count);
 
