@@ -28,29 +28,6 @@ pub refused-leaves : (img out : List ℕ) (a : Answer Left) (r : Refusal) → a 
 unfolding afterwards
 refused-leaves img out a r e = ap (afterwards img out) e
 
-module _ (others : Bool) (img : List ℕ) (step : State → Answer Left) where
-  wrong : (whole-image img && others) ≡ false → on-image others img step ≡ refused WrongLength
-  unfolding on-image refuse_when_else_
-  wrong e = rw e
-
-  pub wrong-image : (length img ≡ image-length → ⊥) → on-image others img step ≡ refused WrongLength
-  wrong-image h = wrong (ap (λ (b : Bool). b && others) (ne-eqb (length img) image-length h))
-
-  module _ (size : length img ≡ image-length) where
-    pub wrong-other : others ≡ false → on-image others img step ≡ refused WrongLength
-    wrong-other h = wrong (ap (λ (b : Bool). b && others) (eq-eqb (length img) image-length size) ∙ h)
-
-    right : others ≡ true → (whole-image img && others) ≡ true
-    right h = ap (λ (b : Bool). b && others) (eq-eqb (length img) image-length size) ∙ h
-
-    pub not-good : others ≡ true → goodImage img ≡ false → on-image others img step ≡ refused ImageNotGood
-    unfolding on-image refuse_when_else_
-    not-good h g = rw (right h, g)
-
-    pub goes-on : others ≡ true → goodImage img ≡ true → on-image others img step ≡ step (decode img)
-    unfolding on-image refuse_when_else_
-    goes-on h g = rw (right h, g)
-
 -- ---- rows 1 and 2 as a verdict
 
 module _ (img : List ℕ) (lengths : Bool) where

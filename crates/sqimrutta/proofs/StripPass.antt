@@ -6,9 +6,9 @@ use mathlib.Core.List.{List, [], _∷_}
 use native.Mathlib.Omega.{arith}
 use lib.ListN.{length, take, drop, getD, length-append, length-take, length-drop}
 use Rattle.numbers.specs.Words.{if_then_else_, ascends?}
-use Rattle.refusal.specs.declared.Verdict.the-variants.{Accepted}
-use Rattle.refusal.specs.declared.Refusal.the-variants.{WrongLength, ImageNotGood}
-use Rattle.refusal.specs.Refusal.{Answer, refused, accepted}
+use Rattle.refusal.specs.declared.Verdict.the-variants.{Accepted, Refused}
+use Rattle.refusal.specs.declared.Refusal.{Refusal}
+use Rattle.refusal.specs.Refusal.{Answer, accepted}
 use Rattle.block.specs.Fields.{put-at, remove-at}
 use Rattle.block.proofs.Parts.{splice-length}
 use Rattle.meaning.specs.Clock.{Clock}
@@ -16,13 +16,15 @@ use Rattle.meaning.specs.Object.{strip, gone}
 use Rattle.meaning.specs.State.{Stored, State, stored-before}
 use Rattle.meaning.specs.OwnSteps.{strip-pass}
 use Rattle.meaning.specs.Settle.{stripped}
-use Rattle.layout.specs.Image.{image-length, encode, decode, goodImage}
+use Rattle.layout.specs.Image.{image-length, encode, decode}
 use Rattle.layout.specs.Calls.{Left, afterwards, on-image, strip-pass-call}
 use Rattle.image.specs.Places.{no-point}
 use Rattle.image_edits.specs.Edits.{Canonical, with-points}
 use Rattle.store.specs.Restored.{restored}
 use Rattle.store.proofs.Pass.{kept, pass-is, from, from-none, from-more}
-use Rattle.sqimrutta.proofs.Ladder.{leaves, wrong-image, not-good, goes-on}
+use Rattle.writing.specs.Judged.{verdict-of}
+use Rattle.sqimrutta.specs.Admitted.{opened}
+use Rattle.sqimrutta.proofs.Ladder.{leaves, refused-leaves, refused-first, opened-steps}
 
 -- ---- record by record
 
@@ -109,19 +111,10 @@ module _ (img : List ℕ) where
   abbrev step : State → Answer Left
   step s = accepted (record { image = encode (strip-pass s .state); out = []; count = strip-pass s .count })
 
-  as-is : (a : Answer Left) → on-image true img step ≡ a → strip-pass-call img ≡ afterwards img [] a
+  pub strip-refused : (r : Refusal) → verdict-of (opened img true (accepted true)) ≡ Refused r → strip-pass-call img ≡ leaves r img []
   unfolding strip-pass-call
-  as-is a e = ap (afterwards img []) e
+  strip-refused r e = refused-leaves img [] (on-image true img step) r (refused-first img true step r e)
 
-  pub strip-wrong-image : (length img ≡ image-length → ⊥) → strip-pass-call img ≡ leaves WrongLength img []
-  unfolding afterwards
-  strip-wrong-image h = as-is (refused WrongLength) (wrong-image true img step h)
-
-  module _ (size : length img ≡ image-length) where
-    pub strip-not-good : goodImage img ≡ false → strip-pass-call img ≡ leaves ImageNotGood img []
-    unfolding afterwards
-    strip-not-good h = as-is (refused ImageNotGood) (not-good true img step size refl h)
-
-    pub strip-passed : goodImage img ≡ true → strip-pass-call img ≡ record { verdict = Accepted; image = encode (strip-pass (decode img) .state); out = []; count = strip-pass (decode img) .count }
-    unfolding afterwards
-    strip-passed h = as-is (step (decode img)) (goes-on true img step size refl h)
+  pub strip-passed : verdict-of (opened img true (accepted true)) ≡ Accepted → strip-pass-call img ≡ record { verdict = Accepted; image = encode (strip-pass (decode img) .state); out = []; count = strip-pass (decode img) .count }
+  unfolding strip-pass-call afterwards
+  strip-passed e = ap (afterwards img []) (opened-steps img true step e)

@@ -300,24 +300,20 @@ fn strip_all(image: &mut [u8], rows: &[u8]) -> u32
 pub fn strip_pass(image: &mut [u8]) -> Tally
     ensures { λ r. ⌜ Strips (λ v. v) (now (image .entry)) (r .verdict) (now (image .exit)) (r .count) ⌝ }
 {
-    if image.len() != 34304 {
-        return Tally {
-            verdict: Verdict::Refused(Refusal::WrongLength),
+    match opens(image, true) {
+        Verdict::Refused(r) => Tally {
+            verdict: Verdict::Refused(r),
             count: 0,
-        };
-    }
-    if !image::good(image) {
-        return Tally {
-            verdict: Verdict::Refused(Refusal::ImageNotGood),
-            count: 0,
-        };
-    }
-    let mut rows: [u8; 96] = [0; 96];
-    block::copy_in(&mut rows, 0, &image[16..112]);
-    let count = strip_all(image, &rows);
-    Tally {
-        verdict: Verdict::Accepted,
-        count: count,
+        },
+        Verdict::Accepted => {
+            let mut rows: [u8; 96] = [0; 96];
+            block::copy_in(&mut rows, 0, &image[16..112]);
+            let count = strip_all(image, &rows);
+            Tally {
+                verdict: Verdict::Accepted,
+                count: count,
+            }
+        }
     }
 }
 
