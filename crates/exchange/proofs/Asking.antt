@@ -8,7 +8,7 @@ use lib.ListN.{length}
 use borrow.Author.Tests.{le-leb, lt-leb, eq-eqb, ne-eqb}
 use Rattle.numbers.specs.declared.Controller.{Controller}
 use Rattle.numbers.specs.Numbers.{controller, is-controller, same-controller}
-use Rattle.refusal.specs.declared.Verdict.the-variants.{Accepted, Refused}
+use Rattle.refusal.specs.declared.Verdict.the-variants.{Accepted}
 use Rattle.refusal.specs.declared.Refusal.{Refusal}
 use Rattle.refusal.specs.declared.Refusal.the-variants.{OutOfRange, NotPeer}
 use Rattle.refusal.specs.Refusal.{Answer, refused, refuse_when_else_}
@@ -21,8 +21,9 @@ use Rattle.meaning.specs.Exchange.{other-peer, ask}
 use Rattle.layout.specs.Clocks.{decode-clock}
 use Rattle.layout.specs.Image.{image-length, decode-head, decode}
 use Rattle.layout.specs.Messages.{encode-greeting, encode-ask}
-use Rattle.layout.specs.Calls.{After, afterwards}
+use Rattle.layout.specs.Calls.{afterwards}
 use Rattle.store.proofs.Lent.{table-part, clock-part, own-part}
+use Rattle.store.proofs.Untouched.{untouched}
 use Rattle.exchange.specs.Sent.{asked}
 
 -- ---- another peer, by the parts that were lent
@@ -43,23 +44,19 @@ module _ (img : List ℕ) (size : length img ≡ image-length) (own m : Controll
 
 -- ---- case by case
 
--- refused with r, and all as it was
-abbrev untouched : Refusal → List ℕ → List ℕ → After
-untouched r img out = record { verdict = Refused r; image = img; out = out; count = 0 }
-
 module _ (s : State) (to : ℕ) (img out : List ℕ) where
   leaves : (r : Refusal) → ask s (controller to) ≡ refused r → afterwards img out (asked img (ask s (controller to))) ≡ untouched r img out
   unfolding afterwards
   leaves r e = ap (λ (a : Answer Ask). afterwards img out (asked img a)) e
 
-  pub below-range : to < 1 → afterwards img out (asked img (ask s (controller to))) ≡ record { verdict = Refused OutOfRange; image = img; out = out; count = 0 }
+  pub below-range : to < 1 → afterwards img out (asked img (ask s (controller to))) ≡ untouched OutOfRange img out
   below-range h = leaves OutOfRange (unfold ask is-controller refuse_when_else_ in (rw (lt-leb 1 to h)))
 
-  pub above-range : 8 < to → afterwards img out (asked img (ask s (controller to))) ≡ record { verdict = Refused OutOfRange; image = img; out = out; count = 0 }
+  pub above-range : 8 < to → afterwards img out (asked img (ask s (controller to))) ≡ untouched OutOfRange img out
   above-range h = leaves OutOfRange (unfold ask is-controller refuse_when_else_ in (rw (le-leb 1 to (omega arith), lt-leb to 8 h)))
 
   module _ (low : 1 ≤ to) (high : to ≤ 8) where
-    pub no-peer : other-peer s (controller to) ≡ false → afterwards img out (asked img (ask s (controller to))) ≡ record { verdict = Refused NotPeer; image = img; out = out; count = 0 }
+    pub no-peer : other-peer s (controller to) ≡ false → afterwards img out (asked img (ask s (controller to))) ≡ untouched NotPeer img out
     no-peer h = leaves NotPeer (unfold ask is-controller refuse_when_else_ in (rw (le-leb 1 to low, le-leb to 8 high, h)))
 
     pub asks : other-peer s (controller to) ≡ true

@@ -13,14 +13,15 @@ use Rattle.layout.specs.Image.{decode}
 use Rattle.layout.specs.Calls.{Left, afterwards, one-block, on-image, ask-call}
 use Rattle.writing.specs.Judged.{verdict-of}
 use Rattle.exchange.specs.Sent.{asked}
+use Rattle.store.proofs.Untouched.{untouched}
 use Rattle.sqimrutta.specs.Admitted.{opened}
-use Rattle.sqimrutta.proofs.Ladder.{leaves, refused-leaves, refused-first, opened-steps}
+use Rattle.sqimrutta.proofs.Ladder.{refused-leaves, refused-first, opened-steps}
 
 module _ (img : List ℕ) (to : ℕ) (out : List ℕ) where
   abbrev step : State → Answer Left
   step s = asked img (ask s (controller to))
 
-  pub ask-refused : (r : Refusal) → verdict-of (opened img (one-block out) (accepted true)) ≡ Refused r → ask-call img to out ≡ leaves r img out
+  pub ask-refused : (r : Refusal) → verdict-of (opened img (one-block out) (accepted true)) ≡ Refused r → ask-call img to out ≡ untouched r img out
   unfolding ask-call
   ask-refused r e = refused-leaves img out (on-image (one-block out) img step) r (refused-first img (one-block out) step r e)
 

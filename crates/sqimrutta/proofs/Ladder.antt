@@ -15,16 +15,13 @@ use Rattle.meaning.specs.State.{State}
 use Rattle.meaning.specs.OwnSteps.{ours}
 use Rattle.laws.proofs.Answers.{passes-not}
 use Rattle.layout.specs.Image.{image-length, decode, goodImage}
-use Rattle.layout.specs.Calls.{Left, After, afterwards, whole-image, on-image}
+use Rattle.layout.specs.Calls.{Left, afterwards, whole-image, on-image}
+use Rattle.store.proofs.Untouched.{untouched}
 use Rattle.writing.specs.Judged.{verdict-of}
 use Rattle.writing.proofs.Accepted.{then, by-refusal, by-none, accepted-with}
 use Rattle.sqimrutta.specs.Admitted.{opened, admitted}
 
--- refused with r, and all as it was
-abbrev pub leaves : Refusal → List ℕ → List ℕ → After
-leaves r img out = record { verdict = Refused r; image = img; out = out; count = 0 }
-
-pub refused-leaves : (img out : List ℕ) (a : Answer Left) (r : Refusal) → a ≡ refused r → afterwards img out a ≡ leaves r img out
+pub refused-leaves : (img out : List ℕ) (a : Answer Left) (r : Refusal) → a ≡ refused r → afterwards img out a ≡ untouched r img out
 unfolding afterwards
 refused-leaves img out a r e = ap (afterwards img out) e
 

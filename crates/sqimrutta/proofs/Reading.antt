@@ -31,8 +31,9 @@ use Rattle.layout.specs.Calls.{Left, afterwards, one-block, on-image, read-call
 use Rattle.record_edits.specs.Written.{Written, lay-point, point-block, with-object, with-versions}
 use Rattle.store.proofs.Lent.{table-part, clock-part, own-part}
 use Rattle.writing.specs.Judged.{verdict-of}
+use Rattle.store.proofs.Untouched.{untouched}
 use Rattle.sqimrutta.specs.Admitted.{admitted}
-use Rattle.sqimrutta.proofs.Ladder.{leaves, refused-leaves, not-admitted-first, admitted-then, what-is-admitted}
+use Rattle.sqimrutta.proofs.Ladder.{refused-leaves, not-admitted-first, admitted-then, what-is-admitted}
 
 -- ---- case by case
 
@@ -44,7 +45,7 @@ module _ (img : List ℕ) (job point : ℕ) (out : List ℕ) where
   unfolding read refuse_when_else_
   asks s h = rw h
 
-  pub read-refused : (r : Refusal) → verdict-of (admitted img (one-block out) (key job point)) ≡ Refused r → read-call img job point out ≡ leaves r img out
+  pub read-refused : (r : Refusal) → verdict-of (admitted img (one-block out) (key job point)) ≡ Refused r → read-call img job point out ≡ untouched r img out
   unfolding read-call
   read-refused r e = refused-leaves img out (on-image (one-block out) img step) r (not-admitted-first img (one-block out) (key job point) step asks r e)
 

@@ -23,8 +23,9 @@ use Rattle.image_edits.specs.Edits.{Canonical, with-points}
 use Rattle.store.specs.Restored.{restored}
 use Rattle.store.proofs.Pass.{kept, pass-is, from, from-none, from-more}
 use Rattle.writing.specs.Judged.{verdict-of}
+use Rattle.store.proofs.Untouched.{untouched}
 use Rattle.sqimrutta.specs.Admitted.{opened}
-use Rattle.sqimrutta.proofs.Ladder.{leaves, refused-leaves, refused-first, opened-steps}
+use Rattle.sqimrutta.proofs.Ladder.{refused-leaves, refused-first, opened-steps}
 
 -- ---- record by record
 
@@ -111,7 +112,7 @@ module _ (img : List ℕ) where
   abbrev step : State → Answer Left
   step s = accepted (record { image = encode (strip-pass s .state); out = []; count = strip-pass s .count })
 
-  pub strip-refused : (r : Refusal) → verdict-of (opened img true (accepted true)) ≡ Refused r → strip-pass-call img ≡ leaves r img []
+  pub strip-refused : (r : Refusal) → verdict-of (opened img true (accepted true)) ≡ Refused r → strip-pass-call img ≡ untouched r img []
   unfolding strip-pass-call
   strip-refused r e = refused-leaves img [] (on-image true img step) r (refused-first img true step r e)
 

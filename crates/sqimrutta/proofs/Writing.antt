@@ -18,8 +18,9 @@ use Rattle.layout.specs.Image.{decode}
 use Rattle.layout.specs.Calls.{Left, afterwards, one-block, on-image, write-call, delete-call}
 use Rattle.writing.specs.Judged.{verdict-of}
 use Rattle.writing.specs.LeftBy.{left-by}
+use Rattle.store.proofs.Untouched.{untouched}
 use Rattle.sqimrutta.specs.Admitted.{admitted}
-use Rattle.sqimrutta.proofs.Ladder.{leaves, refused-leaves, not-admitted-first, admitted-then}
+use Rattle.sqimrutta.proofs.Ladder.{refused-leaves, not-admitted-first, admitted-then}
 
 module _ (img : List ℕ) (job point : ℕ) (c out : List ℕ) where
   abbrev lengths : mathlib.Core.Bool.Bool
@@ -33,7 +34,7 @@ module _ (img : List ℕ) (job point : ℕ) (c out : List ℕ) where
     refuses : (s : State) → ours s (key job point) ≡ false → step s ≡ refused OutOfRange
     refuses s h = ap left-by (asks s h)
 
-    not-admitted : (r : Refusal) → verdict-of (admitted img lengths (key job point)) ≡ Refused r → afterwards img out (on-image lengths img step) ≡ leaves r img out
+    not-admitted : (r : Refusal) → verdict-of (admitted img lengths (key job point)) ≡ Refused r → afterwards img out (on-image lengths img step) ≡ untouched r img out
     not-admitted r e = refused-leaves img out (on-image lengths img step) r (not-admitted-first img lengths (key job point) step refuses r e)
 
     goes-on : verdict-of (admitted img lengths (key job point)) ≡ Accepted → afterwards img out (on-image lengths img step) ≡ afterwards img out (left-by (does (decode img)))
@@ -47,7 +48,7 @@ module _ (img : List ℕ) (job point : ℕ) (c out : List ℕ) where
   unfolding delete refuse_when_else_
   delete-asks s h = rw h
 
-  pub write-refused : (v : List ℕ) (r : Refusal) → verdict-of (admitted img (eqb (length c) 8 && one-block out) (key job point)) ≡ Refused r → write-call img job point v c out ≡ leaves r img out
+  pub write-refused : (v : List ℕ) (r : Refusal) → verdict-of (admitted img (eqb (length c) 8 && one-block out) (key job point)) ≡ Refused r → write-call img job point v c out ≡ untouched r img out
   unfolding write-call
   write-refused v r e = not-admitted (λ s. write s (key job point) v (map counter c)) (write-asks v) r e
 
@@ -55,7 +56,7 @@ module _ (img : List ℕ) (job point : ℕ) (c out : List ℕ) where
   unfolding write-call
   write-goes-on v e = goes-on (λ s. write s (key job point) v (map counter c)) (write-asks v) e
 
-  pub delete-refused : (r : Refusal) → verdict-of (admitted img (eqb (length c) 8 && one-block out) (key job point)) ≡ Refused r → delete-call img job point c out ≡ leaves r img out
+  pub delete-refused : (r : Refusal) → verdict-of (admitted img (eqb (length c) 8 && one-block out) (key job point)) ≡ Refused r → delete-call img job point c out ≡ untouched r img out
   unfolding delete-call
   delete-refused r e = not-admitted (λ s. delete s (key job point) (map counter c)) delete-asks r e
 

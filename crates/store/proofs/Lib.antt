@@ -3,3 +3,4 @@ pub mod Pass
 pub mod Recorded
 pub mod Resulting
 pub mod Lent
+pub mod Untouched

@@ -1,5 +1,5 @@
 -- A write or a delete that was judged: its message is laid out, and recorded it is what `settled` says. Assumes nothing.
-use Prim.Native.Nat.{ℕ, _≤_, _<_}
+use Prim.Native.Nat.{ℕ, _≤_}
 use mathlib.Core.Path.{_≡_, refl, ap, sym, _∙_, subst}
 use mathlib.Core.Bool.{true}
 use mathlib.Core.List.{List, [], _∷_}
@@ -28,7 +28,7 @@ use Rattle.layout.proofs.PointBack.{PointSized}
 use Rattle.layout.proofs.Sizes.{outgoing-sized}
 use Rattle.layout.proofs.MessagesBack.{outgoing-length}
 use Rattle.record_edits.specs.Written.{Written, lay-point, point-block}
-use Rattle.record_edits.proofs.Edits.{Sized, says-so}
+use Rattle.record_edits.proofs.Edits.{says-so}
 use Rattle.writing.specs.Judged.{judged, verdict-of}
 use Rattle.writing.specs.Recorded.{next-clock, recorded}
 use Rattle.writing.proofs.PutDown.{put-down-judged}

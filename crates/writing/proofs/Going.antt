@@ -5,18 +5,19 @@ use mathlib.Core.Logic.{⊎-elim}
 use mathlib.Core.Bool.{Bool, true, false, _&&_, not}
 use mathlib.Core.List.{List, [], _∷_}
 use native.Mathlib.Omega.{arith}
-use lib.Dec.{leb, eqb}
 use borrow.Author.Tests.{le-leb}
 use Rattle.numbers.specs.declared.Controller.{Controller}
 use Rattle.numbers.specs.declared.Counter.{Counter}
 use Rattle.numbers.specs.declared.Key.{Key}
 use Rattle.numbers.specs.Words.{if_then_else_, keep, some?, place}
-use Rattle.numbers.specs.Numbers.{counter, same-controller, controllers, Crew}
+use Rattle.numbers.specs.Numbers.{controller, counter, same-controller, Crew}
 use Rattle.numbers.specs.Key.{same-key}
-use Rattle.numbers.proofs.Tests.{by-test, never, _∈_}
-use Rattle.numbers.proofs.Lists.{in-map, in-all, in-some, none-in, place-here}
-use Rattle.numbers.proofs.Controllers.{in-crew, same-controllers}
+use Rattle.numbers.proofs.Tests.{by-test, never}
+use Rattle.numbers.proofs.Lists.{in-some, none-in, place-here}
+use Rattle.numbers.proofs.Controllers.{same-controllers}
 use Rattle.numbers.proofs.Dots.{key-itself}
+use Rattle.block.proofs.ByIndex.{all-below}
+use Rattle.block.proofs.Passing.{all-upto}
 use Rattle.meaning.specs.CrewTable.{holds}
 use Rattle.meaning.specs.Clock.{Clock, row}
 use Rattle.meaning.specs.Context.{Context, entry, is-empty, covers, strip-context}
@@ -27,6 +28,7 @@ use Rattle.meaning.specs.OwnSteps.{next-dot, written}
 use Rattle.laws.proofs.ContextLaws.{entry-each, no-entry, fill-holder, fill-other}
 use Rattle.laws.proofs.Goodness.{Good}
 use Rattle.laws.proofs.Putting.{looked-up}
+use Rattle.object.proofs.Going.{low, strips-empty}
 use Rattle.writing.specs.Judged.{has-record}
 use Rattle.writing.proofs.ClockAfter.{row-other, row-own}
 
@@ -38,14 +40,9 @@ look-up-none k ps none =
 
 -- a context that is nowhere above the clock strips to the empty one
 strips-to-none : (k : Clock) (c : Context) → ((n : Controller) → Crew n → entry c n .0 ≤ row k n .base) → is-empty (strip-context k c) ≡ true
-unfolding is-empty strip-context
-strips-to-none k c low = in-all (λ e. eqb (e .0) 0) (strip-context k c) (λ e m. zero e m)
-  where
-    zero : (e : Counter) → e ∈ strip-context k c → eqb (e .0) 0 ≡ true
-    zero e m =
-        let q = in-map (λ n. if leb (entry c n .0) (row k n .base) then counter 0 else entry c n) controllers m in
-        ap (λ (x : Counter). eqb (x .0) 0) (q .2)
-        ∙ ap (λ (b : Bool). eqb ((if b then counter 0 else entry c (q .0)) .0) 0) (le-leb (entry c (q .0) .0) (row k (q .0) .base) (low (q .0) (in-crew (q .0) (q .1))))
+strips-to-none k c h =
+    sym (strips-empty c k) ∙ sym (all-upto (low c k) 8 (λ i. i))
+    ∙ all-below (low c k) 8 (λ i. i) (λ i l. le-leb (entry c (controller (i + 1)) .0) (row k (controller (i + 1)) .base) (h (controller (i + 1)) (omega arith, omega arith)))
 
 module _ (s : State) (k : Key) (b : Contents) (c : Context) where
   abbrev fresh : Version

@@ -6,7 +6,6 @@ use mathlib.Core.List.{List}
 use native.Mathlib.Omega.{arith}
 use lib.ListN.{length, take, drop, getD, replicate}
 use lib.Dec.{leb, ltb}
-use borrow.Author.Tests.{le-leb, lt-leb}
 use Rattle.numbers.specs.declared.Key.{Key}
 use Rattle.numbers.specs.Words.{keep, some?}
 use Rattle.numbers.specs.Numbers.{is-controller, controllers}

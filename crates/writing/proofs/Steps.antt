@@ -28,6 +28,7 @@ use Rattle.layout.specs.Image.{encode}
 use Rattle.layout.specs.Messages.{encode-outgoing}
 use Rattle.layout.specs.Calls.{After, afterwards}
 use Rattle.layout.proofs.PointBack.{SlotSized, slot-back}
+use Rattle.store.proofs.Untouched.{untouched}
 use Rattle.writing.specs.Judged.{judged, verdict-of}
 use Rattle.writing.specs.LeftBy.{left-by}
 use Rattle.writing.proofs.PutDown.{put-down-judged}
@@ -35,10 +36,6 @@ use Rattle.writing.proofs.Accepted.{judged-refused}
 use Rattle.writing.proofs.Down.{held-here, put-down-done}
 
 -- ---- what is left
-
--- refused with r, and all as it was
-abbrev pub untouched : Refusal → List ℕ → List ℕ → After
-untouched r img out = record { verdict = Refused r; image = img; out = out; count = 0 }
 
 -- the image that records what was written, and its message
 abbrev pub made : State → Key → Contents → Context → After

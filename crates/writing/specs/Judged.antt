@@ -26,7 +26,7 @@ has-record k ps = some? (λ p. same-key k (p .key)) ps
 abbrev pub staying : State → Key → Context → List Version
 staying s k c = keep (λ v. not (covers c (v .dot))) (look-up k (s .points) .versions)
 
--- the rows after 14: they ask nothing of the point
+-- 14 and 15, which ask nothing of the point
 unfoldable pub own-judged : {A : Type 0} → State → A → Answer A
 own-judged s a =
     refuse OwnListFull when leb most-listed (length (s .own-dots)) else
