@@ -21,6 +21,7 @@ extern "C" {
 enum {
     SQIMRUTTA_BLOCK = 512,          /* a block; a reading is one, and so is the message of a write or deletion */
     SQIMRUTTA_IMAGE = 67 * 512,     /* an image: what the handheld stores */
+    SQIMRUTTA_REPLY = 121 * 512,    /* the least room for a reply: its head, and the 120 points that the lists can name */
     SQIMRUTTA_TABLE = 8,            /* the crew table: a byte for each job 0..7, bit n-1 says that controller n holds it */
     SQIMRUTTA_CONTEXT = 8,          /* a context, in counters: one for each controller, the first for controller 1 */
     SQIMRUTTA_VALUE = 24            /* the longest value; one of no bytes is a value, too */
@@ -80,9 +81,22 @@ uint32_t sqimrutta_write(uint8_t *image, size_t image_len, uint8_t job, uint16_t
 uint32_t sqimrutta_delete(uint8_t *image, size_t image_len, uint8_t job, uint16_t point, const uint32_t *context, size_t context_len,
                           uint8_t *out, size_t out_len);
 
+/* Takes in the message of another's write or deletion, the block of kind 4 that came in `message` (SQIMRUTTA_BLOCK bytes). What it says of its point is
+ * merged with what is here: it may be lost, come again, or come late or out of order, and changes no reading that it should not. Store the image to
+ * flash afterwards. After refusal 11 ask the sender, since too much before this message is missing here; 9 says that this image is an old copy of
+ * itself, which must not go on. Refusals 1, 2, 3, 4, 5, 6, 9, 10, 11, 12, 13. */
+uint32_t sqimrutta_take_in(uint8_t *image, size_t image_len, const uint8_t *message, size_t message_len);
+
 /* Asks the peer `to`, 1..8, for what this handheld lacks: a block of kind 5 in `out` (SQIMRUTTA_BLOCK bytes) with the own clock, to be sent to that peer alone. It changes
  * nothing in the image, so it may be lost or sent again. Refusals 1, 2, 5, 6. */
 uint32_t sqimrutta_ask(const uint8_t *image, size_t image_len, uint8_t to, uint8_t *out, size_t out_len);
+
+/* Answers the ask that came in `ask` (SQIMRUTTA_BLOCK bytes): in `out` (SQIMRUTTA_REPLY bytes or more) a head, a block of kind 6 whose bytes 6-7 are the
+ * number of points, and then a block of kind 3 for each point of which the asker lacks a write that is still listed here. `*count` is that number, 0
+ * where it is refused: the first 512 * (1 + *count) bytes of `out` are to be sent to the asker alone, the rest is as it was. A point without a record
+ * is sent, too: it tells the asker that what it has of that point is gone. It changes nothing in the image, so it may be lost or made again.
+ * Refusals 1, 2, 3, 4, 6, 9. */
+uint32_t sqimrutta_reply(const uint8_t *image, size_t image_len, const uint8_t *ask, size_t ask_len, uint8_t *out, size_t out_len, uint32_t *count);
 
 /* Frees what is known by now; changes no reading. `*count` is the number of records gone, 0 where it is refused. Refusals 1, 2. */
 uint32_t sqimrutta_strip_pass(uint8_t *image, size_t image_len, uint32_t *count);

@@ -14,9 +14,6 @@
 #include "stream.h"
 
 /* The calls that the header has not yet. A slice is a pointer and a size_t. */
-uint32_t sqimrutta_take_in(uint8_t *image, size_t image_len, const uint8_t *message, size_t message_len);
-uint32_t sqimrutta_reply(const uint8_t *image, size_t image_len, const uint8_t *ask, size_t ask_len, uint8_t *out,
-                         size_t out_len, uint32_t *count);
 uint32_t sqimrutta_repair(uint8_t *image, size_t image_len, const uint8_t *reply, size_t reply_len);
 
 #ifndef HAVE

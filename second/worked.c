@@ -1,4 +1,4 @@
-/* Document 01's worked examples K5 to K9 and its limits, through the exported C functions. What must come is written out below, byte
+/* Document 01's worked examples K2 to K9 and K12 and its limits, through the exported C functions. What must come is written out below, byte
  * by byte, from document 01: it is neither the second program's nor the library's. Only the checks of blocks are computed here, and
  * that rule is held against K1. For each example the answers are compared, and the message, the whole image and the reading in the
  * end; of a refused call, that no lent byte has changed.
@@ -7,8 +7,8 @@
  *
  * Whole images and messages of the same examples as the second program makes them: replay.c, whose streams begin with K5 to K12.
  *
- * Left for later, since they need take_in, ask, reply or repair: K2 to K4, of rows with gaps, which only a message can make; K10 to
- * K12, which go on from K9 at controller 2. Refusal 13 is not here: own writes reach 60 listed dots before 64 stored points.
+ * Left for later, since they need repair: K10 and K11, which go on from K9 at controller 2. Refusal 13 is not here: own writes reach 60
+ * listed dots before 64 stored points.
  *
  * Exit: 0 all as written, 1 a difference. */
 
@@ -165,6 +165,17 @@ static uint32_t strip_pass(void) {
     return sqimrutta_strip_pass(lent.image, told.image, &gone);
 }
 
+/* This block, with its check, comes by radio. */
+static uint32_t take_in(const uint8_t *bare) {
+    uint8_t message[BLOCK];
+    memcpy(message, bare, BARE);
+    seal(message);
+    remember();
+    uint32_t answer = sqimrutta_take_in(lent.image, told.image, message, BLOCK);
+    block_is("the message lent to take_in", message, bare);
+    return answer;
+}
+
 /* The context that the next calls give: controller:counter, 0 for all others. */
 static void give(int controller, uint32_t counter) {
     memset(lent.context, 0, sizeof lent.context);
@@ -181,15 +192,17 @@ static void give_what_was_read(void) {
     }
 }
 
-/* "Table: job 0 held by 1 and 2. Point 7 of job 0." A fresh controller 1. "The lent image's old bytes don't matter." */
-static void fresh(void) {
+/* "Table: job 0 held by 1 and 2. Point 7 of job 0." A fresh controller. "The lent image's old bytes don't matter." */
+static void fresh_controller(uint8_t number) {
     told = right_lengths;
     memset(&lent, 0xaa, sizeof lent);
     memset(lent.table, 0, sizeof lent.table);
     lent.table[0] = 3;
-    accepted("start", start(1));
+    accepted("start", start(number));
     give_zeros();
 }
+
+static void fresh(void) { fresh_controller(1); }
 
 /* An image of these blocks, as if a controller had it. */
 static void lay(const bare_block *blocks, size_t count) {
@@ -337,6 +350,75 @@ static void k9(void) {
     message_is(message);
     image_is(image, COUNT(image));
     reading_is(reading);
+    nothing_to_strip();
+}
+
+/* K2 to K4 are of controller 2's row for controller 1, which a message can give gaps. The image before: that row and nothing else. */
+
+/* "Row base 3, bits 2 (counter 5): adding 4 gives base 5, bits 0." The record's context, 4, is then not above the base. */
+static void k2(void) {
+    static const bare_block image[] = {{1, 1, 0, 0, 2, [8] = 3, [16] = 3, [20] = 2}, {2, 1, 1, 0}, {2, 1, 2, 0}};
+    static const bare_block message = {4, 1, 0, 0, 0, 1, 7, 0, [8] = 4, [40] = 1, 1, 0, 0, 4, 0, 0, 0, 'd', [296] = 1};
+    static const bare_block after[] = {
+        {1, 1, 0, 0, 2, [8] = 3, [16] = 5},
+        {2, 1, 1, 0},
+        {2, 1, 2, 0, 1, 0, [8] = 1, 0, 7, 0, 4, 0, 0, 0},
+        {3, 1, 3, 0, 0, 1, 7, 0, [40] = 1, 1, 0, 0, 4, 0, 0, 0, 'd'},
+    };
+    static const bare_block reading = {7, 1, 0, 0, 0, 1, 7, 0, [8] = 5, [40] = 1, 1, 0, 0, 4, 0, 0, 0, 'd', [296] = 2};
+    lay(image, COUNT(image));
+    accepted("take_in", take_in(message));
+    image_is(after, COUNT(after));
+    reading_is(reading);
+    accepted("take_in again", take_in(message));
+    kept_image();
+    nothing_to_strip();
+}
+
+static const bare_block row_base_3[] = {{1, 1, 0, 0, 2, [8] = 3, [16] = 3}, {2, 1, 1, 0}, {2, 1, 2, 0}};
+
+/* "Row base 3, bits 0: adding 67 sets bit 63." The record keeps its context, which is above the base. */
+static void k3(void) {
+    static const bare_block message = {4, 1, 0, 0, 0, 1, 7, 0, [8] = 67, [40] = 1, 0, 0, 0, 67, 0, 0, 0, [296] = 1};
+    static const bare_block after[] = {
+        {1, 1, 0, 0, 2, [8] = 3, [16] = 3, [27] = 128},
+        {2, 1, 1, 0},
+        {2, 1, 2, 0, 1, 0, [8] = 1, 0, 7, 0, 67, 0, 0, 0},
+        {3, 1, 3, 0, 0, 1, 7, 0, [8] = 67, [40] = 1, 0, 0, 0, 67, 0, 0, 0},
+    };
+    lay(row_base_3, COUNT(row_base_3));
+    accepted("take_in", take_in(message));
+    image_is(after, COUNT(after));
+    nothing_to_strip();
+}
+
+/* "Adding 68: refusal 11." */
+static void k4(void) {
+    static const bare_block message = {4, 1, 0, 0, 0, 1, 7, 0, [8] = 68, [40] = 1, 0, 0, 0, 68, 0, 0, 0, [296] = 1};
+    lay(row_base_3, COUNT(row_base_3));
+    refused("take_in", take_in(message), 11);
+}
+
+/* "The deletion 1.2 reaches a fresh 2 first: row 1 has base 0, bits 2. Then 1.1 arrives: nothing is shown and the row stays." */
+static void k12(void) {
+    static const bare_block deletion = {4, 1, 0, 0, 0, 1, 7, 0, [8] = 2, [40] = 1, 255, 0, 0, 2, 0, 0, 0, [296] = 1};
+    static const bare_block first = {4, 1, 0, 0, 0, 1, 7, 0, [8] = 1, [40] = 1, 1, 0, 0, 1, 0, 0, 0, 'a', [296] = 1};
+    static const bare_block image[] = {
+        {1, 1, 0, 0, 2, [8] = 3, [20] = 2},
+        {2, 1, 1, 0},
+        {2, 1, 2, 0, 1, 0, [8] = 1, 0, 7, 0, 2, 0, 0, 0},
+        {3, 1, 3, 0, 0, 1, 7, 0, [8] = 2, [40] = 1, 255, 0, 0, 2, 0, 0, 0},
+    };
+    static const bare_block reading = {7, 1, 0, 0, 0, 0, 7, 0, [8] = 2, [296] = 2};
+    fresh_controller(2);
+    accepted("take_in of 1.2", take_in(deletion));
+    image_is(image, COUNT(image));
+    reading_is(reading);
+    accepted("take_in of 1.1", take_in(first));
+    image_is(image, COUNT(image));
+    reading_is(reading);
+    accepted("take_in of 1.2 again", take_in(deletion));
+    image_is(image, COUNT(image));
     nothing_to_strip();
 }
 
@@ -653,11 +735,15 @@ int main(void) {
     } examples[] = {
         {"K1", k1},
         {"a fresh image", fresh_image},
+        {"K2", k2},
+        {"K3", k3},
+        {"K4", k4},
         {"K5", k5},
         {"K6", k6},
         {"K7", k7},
         {"K8", k8},
         {"K9", k9},
+        {"K12", k12},
         {"eight writes and the ninth", eight_writes},
         {"sixty writes and the sixty-first", sixty_writes},
         {"sixty points and the sixty-first", sixty_points},

@@ -12,7 +12,7 @@ ghost use Rattle.layout.specs.Calls.{afterwards};
 ghost use Rattle.exchange.specs.Sent.{asked};
 
 // 6: "sender or asked party not another peer"
-fn other_peer(image: &[u8], m: Controller) -> bool
+pub fn other_peer(image: &[u8], m: Controller) -> bool
     requires { ⌜ (length (now image) ≡ image-length) × (goodImage (now image) ≡ true) × Crew m ⌝ }
     ensures { λ r. ⌜ r ≡ other-peer (decode (now (image .entry))) m ⌝ }
 {

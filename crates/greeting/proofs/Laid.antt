@@ -1,5 +1,5 @@
 -- When a greeting is laid out as it should be, part by part. Assumes nothing.
-use Prim.Native.Nat.{ℕ, zero, _+_, _-_, _≤_, _<_}
+use Prim.Native.Nat.{ℕ, zero, _+_, _-_, _<_}
 use mathlib.Core.Path.{_≡_, refl, ap, sym, _∙_}
 use mathlib.Core.Bool.{Bool, true, false, _&&_}
 use mathlib.Core.List.{List, [], _∷_, _++_, append-assoc}
@@ -17,12 +17,7 @@ use Rattle.layout.specs.Clocks.{encode-clock, decode-clock}
 use Rattle.layout.specs.Messages.{encode-greeting, decode-ask}
 use Rattle.head.proofs.Rounds.{failed, last-test}
 use Rattle.head.proofs.Again.{field-again, clock-again}
-use Rattle.head.proofs.Laid.{same-cut, zero-at}
-
--- a part that is as it should be, and what follows
-same-then : (x y b : List ℕ) (o m n : ℕ) → length x ≡ m → length y ≡ n → o + (m + n) ≤ length b → (t : Bool) → same-list x (cut b o m) ≡ t
-    → same-list (x ++ y) (cut b o (m + n)) ≡ (t && same-list y (cut b (o + m) n))
-same-then x y b o m n p q h t e = same-cut x y b o m n p q h ∙ ap (λ (u : Bool). u && same-list y (cut b (o + m) n)) e
+use Rattle.head.proofs.Laid.{same-then, zero-at}
 
 module _ (b : List ℕ) (e : length b ≡ 512) (h : Bytes b) (kind points : ℕ) (few : points < 65536) where
   abbrev sender : List ℕ

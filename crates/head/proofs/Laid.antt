@@ -38,11 +38,10 @@ same-cut x y b o m n p q h =
 abbrev pub zero-at : List ℕ → ℕ → ℕ → Bool
 zero-at b o n = all? (λ x. eqb x 0) (cut b o n)
 
--- a part that is as it should be, and one that is to be zero
-same-then : (x y b : List ℕ) (o m n : ℕ) → length x ≡ m → length y ≡ n → o + (m + n) ≤ length b → x ≡ cut b o m
-    → same-list (x ++ y) (cut b o (m + n)) ≡ same-list y (cut b (o + m) n)
-same-then x y b o m n p q h e =
-    same-cut x y b o m n p q h ∙ ap (λ (t : Bool). t && same-list y (cut b (o + m) n)) (same-of x (cut b o m) e)
+-- a part that passes a test or not, and what follows
+pub same-then : (x y b : List ℕ) (o m n : ℕ) → length x ≡ m → length y ≡ n → o + (m + n) ≤ length b → (t : Bool) → same-list x (cut b o m) ≡ t
+    → same-list (x ++ y) (cut b o (m + n)) ≡ (t && same-list y (cut b (o + m) n))
+same-then x y b o m n p q h t e = same-cut x y b o m n p q h ∙ ap (λ (u : Bool). u && same-list y (cut b (o + m) n)) e
 
 zero-then : (y b : List ℕ) (o m n : ℕ) → length y ≡ n → o + (m + n) ≤ length b
     → same-list (zeros m ++ y) (cut b o (m + n)) ≡ (zero-at b o m && same-list y (cut b (o + m) n))
@@ -100,12 +99,12 @@ module _ (b : List ℕ) (e : length b ≡ 512) (own table clock marks : List ℕ
   content-same : same-list (pad 504 content) (cut b 4 504) ≡ (zero-at b 5 3 && zero-at b 368 140)
   content-same =
       ap (λ (l : List ℕ). same-list l (cut b 4 504)) padded
-      ∙ same-then own (zeros 3 ++ (table ++ (clock ++ (marks ++ zeros 140)))) b 4 1 503 own-length from-5 (omega arith) own-same
+      ∙ same-then own (zeros 3 ++ (table ++ (clock ++ (marks ++ zeros 140)))) b 4 1 503 own-length from-5 (omega arith) true (same-of own _ own-same)
       ∙ zero-then (table ++ (clock ++ (marks ++ zeros 140))) b 5 3 500 from-8 (omega arith)
       ∙ ap (λ (t : Bool). zero-at b 5 3 && t)
-      (same-then table (clock ++ (marks ++ zeros 140)) b 8 8 492 table-length from-16 (omega arith) table-same
-      ∙ same-then clock (marks ++ zeros 140) b 16 96 396 clock-length from-112 (omega arith) clock-same
-      ∙ same-then marks (zeros 140) b 112 256 140 marks-length from-368 (omega arith) marks-same
+      (same-then table (clock ++ (marks ++ zeros 140)) b 8 8 492 table-length from-16 (omega arith) true (same-of table _ table-same)
+      ∙ same-then clock (marks ++ zeros 140) b 16 96 396 clock-length from-112 (omega arith) true (same-of clock _ clock-same)
+      ∙ same-then marks (zeros 140) b 112 256 140 marks-length from-368 (omega arith) true (same-of marks _ marks-same)
       ∙ same-zeros 140 (cut b 368 140) (length-cut b 368 140 (omega arith)))
 
   made-same : Bytes b → same-list (make-block 1 1 0 content) b

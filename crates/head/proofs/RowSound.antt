@@ -16,7 +16,7 @@ use Rattle.head.specs.HeadParts.{row-good}
 use Rattle.head.proofs.Rounds.{and-first, and-second}
 
 -- with enough to look at, a number is below 2 to the number of its digits
-digits-above : (k n : ℕ) → n ≤ k → n < 2 ^ digits k n
+pub digits-above : (k n : ℕ) → n ≤ k → n < 2 ^ digits k n
 unfolding digits
 digits-above zero n h = omega arith
 digits-above (suc k) zero h = omega arith
@@ -26,7 +26,7 @@ digits-above (suc k) (suc n) h = double (suc n) (digits k (suc n / 2)) (digits-a
     double m d l = omega arith
 
 -- and it has no more than d of them where it is below 2 to the d
-digits-few : (k n d : ℕ) → n < 2 ^ d → digits k n ≤ d
+pub digits-few : (k n d : ℕ) → n < 2 ^ d → digits k n ≤ d
 unfolding digits
 digits-few zero n d h = omega arith
 digits-few (suc k) zero d h = omega arith

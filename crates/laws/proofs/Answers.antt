@@ -1,17 +1,18 @@
 -- What an accepted answer says of the tests before it. Assumes nothing.
-use Prim.Native.Nat.{ℕ, _≤_}
-use mathlib.Core.Path.{_≡_, refl, sym, subst}
+use mathlib.Core.Path.{_≡_, refl, sym, ap, subst}
 use mathlib.Core.Bool.{Bool, true, false, not}
-use mathlib.Core.List.{List, [], _∷_}
+use mathlib.Core.List.{List}
 use lib.ListN.{length}
 use lib.Dec.{ltb}
 use borrow.Author.Tests.{ltb-false, not-false}
 use Rattle.numbers.specs.Words.{some?}
-use Rattle.numbers.proofs.Tests.{by-test, never, _∈_}
+use Rattle.numbers.proofs.Tests.{by-test, never}
 use Rattle.numbers.proofs.Lists.{in-some}
+use Rattle.refusal.specs.declared.Verdict.{Verdict}
+use Rattle.refusal.specs.declared.Verdict.the-variants.{Accepted, Refused}
 use Rattle.refusal.specs.declared.Refusal.{Refusal}
 use Rattle.refusal.specs.declared.Refusal.the-variants.{RowTooFar, TooManyVersions, TooManyPoints}
-use Rattle.refusal.specs.Refusal.{Answer, refused, accepted, refuse_when_else_, _>>=_}
+use Rattle.refusal.specs.Refusal.{Answer, refused, accepted, refuse_when_else_, _>>=_, verdict-of}
 use Rattle.row.specs.Row.{fits}
 use Rattle.meaning.specs.Clock.{Clock, every-row}
 use Rattle.meaning.specs.State.{Stored, State}
@@ -45,6 +46,35 @@ module _ {A B : Type 0} where
   pub bound : (a : Answer A) (f : A → Answer B) {y : B} → (a >>= f) ≡ accepted y → (x : A) × (a ≡ accepted x) × (f x ≡ accepted y)
   bound (refused r) f {y} e = absurd (not-refused r y e)
   bound (accepted x) f e = (x, refl, e)
+
+-- the judgement, and then another answer
+unfoldable pub then : {A : Type 0} → Answer Bool → Answer A → Answer A
+then a x = a >>= λ y. x
+
+pub by-refusal : {A : Type 0} (x : Answer A) (a : Answer Bool) (r : Refusal) → verdict-of a ≡ Refused r → then a x ≡ refused r
+unfolding then
+by-refusal x (refused q) r e = ap refused (ap which e)
+  where
+    which : Verdict → Refusal
+    which Accepted = q
+    which (Refused p) = p
+by-refusal x (accepted y) r e = absurd (never {b = is-refused Accepted} (ap is-refused e) refl)
+  where
+    is-refused : Verdict → Bool
+    is-refused Accepted = false
+    is-refused (Refused p) = true
+
+pub accepted-with : (a : Answer Bool) → verdict-of a ≡ Accepted → (y : Bool) × (a ≡ accepted y)
+accepted-with (accepted y) e = (y, refl)
+accepted-with (refused q) e = absurd (never {b = is-accepted (Refused q)} (ap is-accepted e) refl)
+  where
+    is-accepted : Verdict → Bool
+    is-accepted Accepted = true
+    is-accepted (Refused p) = false
+
+pub by-none : {A : Type 0} (x : Answer A) (a : Answer Bool) → verdict-of a ≡ Accepted → then a x ≡ x
+unfolding then
+by-none x a e = ap (λ (b : Answer Bool). b >>= λ y. x) (accepted-with a e .1)
 
 -- what an accepted settle has tested, and what it gives
 pub settle-accepted : (s : State) (k : Clock) (rs : List Stored) {x : State} → settle s k rs ≡ accepted x → Limits s k rs × (settled s k rs ≡ x)

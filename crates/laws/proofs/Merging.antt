@@ -41,7 +41,7 @@ use Rattle.laws.proofs.Writing.{own-known, known-own}
 -- ---- no clash
 
 module _ (s : State) (k : Key) (v : Version) (free : clashes s k v ≡ false) where
-  no-clash : (some? (λ p. some? (λ w. same-dot (v .dot) (w .dot) && not (same-key k (p .key) && same-contents (v .contents) (w .contents))) (p .object .versions)) (s .points) ≡ false)
+  pub no-clash : (some? (λ p. some? (λ w. same-dot (v .dot) (w .dot) && not (same-key k (p .key) && same-contents (v .contents) (w .contents))) (p .object .versions)) (s .points) ≡ false)
       × (some? (λ l. same-dot (v .dot) (l .dot) && not (same-key k (l .key))) (listed s) ≡ false)
   unfolding clashes
   no-clash = or-false _ _ free
@@ -72,7 +72,7 @@ pub record Carried (s : State) (k : Key) (o : Object) : Type 0 where
   pub own-dots : (v : Version) → v ∈ o .versions → v .dot .who ≡ s .own → v .dot .count .0 ≤ own-base s
   pub free : (v : Version) → v ∈ o .versions → clashes s k v ≡ false
 
-well-formed : (s : State) (k : Key) (o : Object) → ObjectFacts s k o → WellFormed o
+pub well-formed : (s : State) (k : Key) (o : Object) → ObjectFacts s k o → WellFormed o
 well-formed s k o F = record { ascending = F .versions .ascend; covered = F .covered; by-crew = λ v m. F .versions .each v m .crew; eight = F .context .eight }
 
 -- two such objects merged

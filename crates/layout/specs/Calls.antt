@@ -52,14 +52,14 @@ abbrev pub whole-image : List ℕ → Bool
 whole-image img = eqb (length img) image-length
 
 -- the table's rows 1 and 2, and then the step on what the image says
-unfoldable pub on-image : Bool → List ℕ → (State → Answer Left) → Answer Left
+unfoldable pub on-image : {A : Type 0} → Bool → List ℕ → (State → Answer A) → Answer A
 on-image lengths-right image step =
     refuse WrongLength when not (whole-image image && lengths-right) else
     refuse ImageNotGood when not (goodImage image) else
     step (decode image)
 
 -- the table's row 3 and the half of row 4 that is of bytes, and then the rest
-unfoldable pub with-message : List ℕ → Bool → Answer Left → Answer Left
+unfoldable pub with-message : {A : Type 0} → List ℕ → Bool → Answer A → Answer A
 with-message message laid-out rest =
     refuse WrongCheck when not (checks-right message) else
     refuse IllFormed when not laid-out else

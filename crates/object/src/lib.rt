@@ -20,7 +20,7 @@ ghost use Rattle.record.specs.Crewed.{crewed};
 ghost use Rattle.object.specs.Versions.{Version-in};
 ghost use Rattle.record_edits.specs.Written.{lay-point, point-block, with-object, with-versions};
 
-fn filled_entry(e: Counter, holder: bool, base: u32) -> Counter
+pub fn filled_entry(e: Counter, holder: bool, base: u32) -> Counter
     ensures { λ r. ⌜ r ≡ (if holder then counter (max (e .0) base) else e) ⌝ }
 {
     if holder {

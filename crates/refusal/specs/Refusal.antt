@@ -47,3 +47,8 @@ module _ {A B : Type 0} where
   abbrev pub _>>=_ : Answer A → (A → Answer B) → Answer B
   refused r >>= f = refused r
   accepted a >>= f = f a
+
+-- what is answered, without the result
+abbrev pub verdict-of : {A : Type 0} → Answer A → Verdict
+verdict-of (refused r) = Refused r
+verdict-of (accepted a) = Accepted

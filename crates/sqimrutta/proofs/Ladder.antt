@@ -10,15 +10,13 @@ use Rattle.numbers.proofs.Tests.{and-left, and-right}
 use Rattle.refusal.specs.declared.Verdict.the-variants.{Accepted, Refused}
 use Rattle.refusal.specs.declared.Refusal.{Refusal}
 use Rattle.refusal.specs.declared.Refusal.the-variants.{WrongLength, ImageNotGood, OutOfRange}
-use Rattle.refusal.specs.Refusal.{Answer, refused, accepted, refuse_when_else_}
+use Rattle.refusal.specs.Refusal.{Answer, refused, accepted, refuse_when_else_, verdict-of}
 use Rattle.meaning.specs.State.{State}
 use Rattle.meaning.specs.OwnSteps.{ours}
-use Rattle.laws.proofs.Answers.{passes-not}
+use Rattle.laws.proofs.Answers.{passes-not, then, by-refusal, by-none, accepted-with}
 use Rattle.layout.specs.Image.{image-length, decode, goodImage}
 use Rattle.layout.specs.Calls.{Left, afterwards, whole-image, on-image}
 use Rattle.store.proofs.Untouched.{untouched}
-use Rattle.writing.specs.Judged.{verdict-of}
-use Rattle.writing.proofs.Accepted.{then, by-refusal, by-none, accepted-with}
 use Rattle.sqimrutta.specs.Admitted.{opened, admitted}
 
 pub refused-leaves : (img out : List ℕ) (a : Answer Left) (r : Refusal) → a ≡ refused r → afterwards img out a ≡ untouched r img out
@@ -28,28 +26,25 @@ refused-leaves img out a r e = ap (afterwards img out) e
 -- ---- rows 1 and 2 as a verdict
 
 module _ (img : List ℕ) (lengths : Bool) where
-  abbrev opens : Answer Bool
-  opens = opened img lengths (accepted true)
-
-  pub no-image : (length img ≡ image-length → ⊥) → Refused WrongLength ≡ verdict-of (opened img lengths (accepted true))
-  unfolding opened refuse_when_else_
+  pub no-image : (length img ≡ image-length → ⊥) → Refused WrongLength ≡ verdict-of (opened img lengths)
+  unfolding on-image refuse_when_else_
   no-image h = sym (rw (ap (λ (b : Bool). b && lengths) (ne-eqb (length img) image-length h)))
 
   module _ (size : length img ≡ image-length) where
     whole : (whole-image img && lengths) ≡ lengths
     whole = ap (λ (b : Bool). b && lengths) (eq-eqb (length img) image-length size)
 
-    pub no-buffer : lengths ≡ false → Refused WrongLength ≡ verdict-of (opened img lengths (accepted true))
-    unfolding opened refuse_when_else_
+    pub no-buffer : lengths ≡ false → Refused WrongLength ≡ verdict-of (opened img lengths)
+    unfolding on-image refuse_when_else_
     no-buffer h = sym (rw (whole ∙ h))
 
     module _ (right : lengths ≡ true) where
-      pub bad-image : goodImage img ≡ false → Refused ImageNotGood ≡ verdict-of (opened img lengths (accepted true))
-      unfolding opened refuse_when_else_
+      pub bad-image : goodImage img ≡ false → Refused ImageNotGood ≡ verdict-of (opened img lengths)
+      unfolding on-image refuse_when_else_
       bad-image h = sym (rw (whole ∙ right, h))
 
-      pub may-open : goodImage img ≡ true → Accepted ≡ verdict-of (opened img lengths (accepted true))
-      unfolding opened refuse_when_else_
+      pub may-open : goodImage img ≡ true → Accepted ≡ verdict-of (opened img lengths)
+      unfolding on-image refuse_when_else_
       may-open h = sym (rw (whole ∙ right, h))
 
   -- whatever follows them
@@ -60,25 +55,25 @@ module _ (img : List ℕ) (lengths : Bool) where
   same-rows true false x = refl
   same-rows true true x = refl
 
-  whatever : {A : Type 0} (x : Answer A) → opened img lengths x ≡ then (opened img lengths (accepted true)) x
-  unfolding opened
-  whatever x = same-rows (whole-image img && lengths) (goodImage img) x
+  whatever : {A : Type 0} (step : State → Answer A) → on-image lengths img step ≡ then (opened img lengths) (step (decode img))
+  unfolding on-image
+  whatever step = same-rows (whole-image img && lengths) (goodImage img) (step (decode img))
 
-  pub opened-refused : {A : Type 0} (x : Answer A) (r : Refusal) → verdict-of (opened img lengths (accepted true)) ≡ Refused r → opened img lengths x ≡ refused r
-  opened-refused x r e = whatever x ∙ by-refusal x opens r e
+  pub refused-first : {A : Type 0} (step : State → Answer A) (r : Refusal) → verdict-of (opened img lengths) ≡ Refused r → on-image lengths img step ≡ refused r
+  refused-first step r e = whatever step ∙ by-refusal (step (decode img)) (opened img lengths) r e
 
-  pub opened-then : {A : Type 0} (x : Answer A) → verdict-of (opened img lengths (accepted true)) ≡ Accepted → opened img lengths x ≡ x
-  opened-then x e = whatever x ∙ by-none x opens e
+  pub opened-steps : {A : Type 0} (step : State → Answer A) → verdict-of (opened img lengths) ≡ Accepted → on-image lengths img step ≡ step (decode img)
+  opened-steps step e = whatever step ∙ by-none (step (decode img)) (opened img lengths) e
 
   pub record Opened : Type 0 where
     pub size : length img ≡ image-length
     pub right : lengths ≡ true
     pub good : goodImage img ≡ true
 
-  pub what-is-opened : verdict-of (opened img lengths (accepted true)) ≡ Accepted → Opened
-  unfolding opened
+  pub what-is-opened : verdict-of (opened img lengths) ≡ Accepted → Opened
+  unfolding on-image
   what-is-opened e =
-      let a = accepted-with opens e .1 in
+      let a = accepted-with (opened img lengths) e .1 in
       let first = passes-not WrongLength (whole-image img && lengths) _ a in
       let second = passes-not ImageNotGood (goodImage img) _ (first .1) in
       record {
@@ -87,39 +82,28 @@ module _ (img : List ℕ) (lengths : Bool) where
         good = second .0;
       }
 
-  -- ---- and what they say of a call
-
-  module _ (step : State → Answer Left) where
-    pub refused-first : (r : Refusal) → verdict-of (opened img lengths (accepted true)) ≡ Refused r → on-image lengths img step ≡ refused r
-    unfolding on-image opened
-    refused-first r e = opened-refused (step (decode img)) r e
-
-    pub opened-steps : verdict-of (opened img lengths (accepted true)) ≡ Accepted → on-image lengths img step ≡ step (decode img)
-    unfolding on-image opened
-    opened-steps e = opened-then (step (decode img)) e
-
 -- ---- rows 1, 2 and 5
 
 module _ (img : List ℕ) (lengths : Bool) (k : Key) where
-  abbrev fifth : Answer Bool
-  fifth = refuse OutOfRange when not (ours (decode img) k) else accepted true
+  abbrev fifth : State → Answer Bool
+  fifth s = refuse OutOfRange when not (ours s k) else accepted true
 
-  pub not-admitted : (r : Refusal) → verdict-of (opened img lengths (accepted true)) ≡ Refused r → Refused r ≡ verdict-of (admitted img lengths k)
+  pub not-admitted : (r : Refusal) → verdict-of (opened img lengths) ≡ Refused r → Refused r ≡ verdict-of (admitted img lengths k)
   unfolding admitted
-  not-admitted r e = sym (ap verdict-of (opened-refused img lengths fifth r e))
+  not-admitted r e = sym (ap verdict-of (refused-first img lengths fifth r e))
 
-  module _ (ok : verdict-of (opened img lengths (accepted true)) ≡ Accepted) where
+  module _ (ok : verdict-of (opened img lengths) ≡ Accepted) where
     pub not-ours : ours (decode img) k ≡ false → Refused OutOfRange ≡ verdict-of (admitted img lengths k)
     unfolding admitted refuse_when_else_
-    not-ours h = sym (ap verdict-of (opened-then img lengths fifth ok) ∙ ap (λ (o : Bool). verdict-of (refuse OutOfRange when not o else accepted true)) h)
+    not-ours h = sym (ap verdict-of (opened-steps img lengths fifth ok) ∙ ap (λ (o : Bool). verdict-of (refuse OutOfRange when not o else accepted true)) h)
 
     pub may-go-on : ours (decode img) k ≡ true → Accepted ≡ verdict-of (admitted img lengths k)
     unfolding admitted refuse_when_else_
-    may-go-on h = sym (ap verdict-of (opened-then img lengths fifth ok) ∙ ap (λ (o : Bool). verdict-of (refuse OutOfRange when not o else accepted true)) h)
+    may-go-on h = sym (ap verdict-of (opened-steps img lengths fifth ok) ∙ ap (λ (o : Bool). verdict-of (refuse OutOfRange when not o else accepted true)) h)
 
   module _ (step : State → Answer Left) (asks : (s : State) → ours s k ≡ false → step s ≡ refused OutOfRange) where
     begins : on-image lengths img step ≡ then (admitted img lengths k) (step (decode img))
-    unfolding on-image admitted opened then refuse_when_else_
+    unfolding on-image admitted then refuse_when_else_
     begins = same-rows-5 (whole-image img && lengths) (goodImage img) (ours (decode img) k) (step (decode img)) (asks (decode img))
       where
         same-rows-5 : (a g o : Bool) (x : Answer Left) → (o ≡ false → x ≡ refused OutOfRange)
@@ -143,7 +127,7 @@ module _ (img : List ℕ) (lengths : Bool) (k : Key) where
     pub mine : ours (decode img) k ≡ true
 
   pub what-is-admitted : verdict-of (admitted img lengths k) ≡ Accepted → Admitted
-  unfolding admitted opened
+  unfolding admitted on-image
   what-is-admitted e =
       let a = accepted-with (admitted img lengths k) e .1 in
       let first = passes-not WrongLength (whole-image img && lengths) _ a in

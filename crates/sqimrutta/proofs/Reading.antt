@@ -14,7 +14,7 @@ use Rattle.numbers.specs.Key.{key, is-key}
 use Rattle.refusal.specs.declared.Verdict.the-variants.{Accepted, Refused}
 use Rattle.refusal.specs.declared.Refusal.{Refusal}
 use Rattle.refusal.specs.declared.Refusal.the-variants.{OutOfRange}
-use Rattle.refusal.specs.Refusal.{Answer, refused, accepted, refuse_when_else_, _>>=_}
+use Rattle.refusal.specs.Refusal.{Answer, refused, accepted, refuse_when_else_, _>>=_, verdict-of}
 use Rattle.block.specs.Fields.{cut}
 use Rattle.block.specs.Check.{seal}
 use Rattle.block.specs.Block.{resealed, Laid}
@@ -30,7 +30,6 @@ use Rattle.layout.specs.Messages.{encode-reading}
 use Rattle.layout.specs.Calls.{Left, afterwards, one-block, on-image, read-call}
 use Rattle.record_edits.specs.Written.{Written, lay-point, point-block, with-object, with-versions}
 use Rattle.store.proofs.Lent.{table-part, clock-part, own-part}
-use Rattle.writing.specs.Judged.{verdict-of}
 use Rattle.store.proofs.Untouched.{untouched}
 use Rattle.sqimrutta.specs.Admitted.{admitted}
 use Rattle.sqimrutta.proofs.Ladder.{refused-leaves, not-admitted-first, admitted-then, what-is-admitted}

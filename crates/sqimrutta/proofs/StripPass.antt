@@ -8,7 +8,7 @@ use lib.ListN.{length, take, drop, getD, length-append, length-take, length-drop
 use Rattle.numbers.specs.Words.{if_then_else_, ascends?}
 use Rattle.refusal.specs.declared.Verdict.the-variants.{Accepted, Refused}
 use Rattle.refusal.specs.declared.Refusal.{Refusal}
-use Rattle.refusal.specs.Refusal.{Answer, accepted}
+use Rattle.refusal.specs.Refusal.{Answer, accepted, verdict-of}
 use Rattle.block.specs.Fields.{put-at, remove-at}
 use Rattle.block.proofs.Parts.{splice-length}
 use Rattle.meaning.specs.Clock.{Clock}
@@ -22,7 +22,6 @@ use Rattle.image.specs.Places.{no-point}
 use Rattle.image_edits.specs.Edits.{Canonical, with-points}
 use Rattle.store.specs.Restored.{restored}
 use Rattle.store.proofs.Pass.{kept, pass-is, from, from-none, from-more}
-use Rattle.writing.specs.Judged.{verdict-of}
 use Rattle.store.proofs.Untouched.{untouched}
 use Rattle.sqimrutta.specs.Admitted.{opened}
 use Rattle.sqimrutta.proofs.Ladder.{refused-leaves, refused-first, opened-steps}
@@ -112,10 +111,10 @@ module _ (img : List ℕ) where
   abbrev step : State → Answer Left
   step s = accepted (record { image = encode (strip-pass s .state); out = []; count = strip-pass s .count })
 
-  pub strip-refused : (r : Refusal) → verdict-of (opened img true (accepted true)) ≡ Refused r → strip-pass-call img ≡ untouched r img []
+  pub strip-refused : (r : Refusal) → verdict-of (opened img true) ≡ Refused r → strip-pass-call img ≡ untouched r img []
   unfolding strip-pass-call
   strip-refused r e = refused-leaves img [] (on-image true img step) r (refused-first img true step r e)
 
-  pub strip-passed : verdict-of (opened img true (accepted true)) ≡ Accepted → strip-pass-call img ≡ record { verdict = Accepted; image = encode (strip-pass (decode img) .state); out = []; count = strip-pass (decode img) .count }
+  pub strip-passed : verdict-of (opened img true) ≡ Accepted → strip-pass-call img ≡ record { verdict = Accepted; image = encode (strip-pass (decode img) .state); out = []; count = strip-pass (decode img) .count }
   unfolding strip-pass-call afterwards
   strip-passed e = ap (afterwards img []) (opened-steps img true step e)

@@ -11,12 +11,11 @@ use Rattle.numbers.specs.Key.{key}
 use Rattle.refusal.specs.declared.Verdict.the-variants.{Accepted, Refused}
 use Rattle.refusal.specs.declared.Refusal.{Refusal}
 use Rattle.refusal.specs.declared.Refusal.the-variants.{OutOfRange}
-use Rattle.refusal.specs.Refusal.{Answer, refused, refuse_when_else_}
+use Rattle.refusal.specs.Refusal.{Answer, refused, refuse_when_else_, verdict-of}
 use Rattle.meaning.specs.State.{State}
 use Rattle.meaning.specs.OwnSteps.{ours, Done, write, delete}
 use Rattle.layout.specs.Image.{decode}
 use Rattle.layout.specs.Calls.{Left, afterwards, one-block, on-image, write-call, delete-call}
-use Rattle.writing.specs.Judged.{verdict-of}
 use Rattle.writing.specs.LeftBy.{left-by}
 use Rattle.store.proofs.Untouched.{untouched}
 use Rattle.sqimrutta.specs.Admitted.{admitted}

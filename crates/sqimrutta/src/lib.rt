@@ -8,19 +8,18 @@ ghost use Prim.Native.Nat.{_<_};
 ghost use mathlib.Core.Bool.{true, _&&_};
 ghost use mathlib.Core.List.{[]};
 ghost use lib.ListN.{length};
-ghost use lib.Dec.{eqb};
+ghost use lib.Dec.{leb, eqb};
 ghost use Rattle.numbers.specs.Numbers.{controller, Crew};
 ghost use Rattle.numbers.specs.Key.{key};
 ghost use Rattle.numbers.specs.Words.{if_then_else_};
-ghost use Rattle.refusal.specs.Refusal.{accepted, answer-number};
+ghost use Rattle.refusal.specs.Refusal.{accepted, answer-number, verdict-of};
 ghost use Rattle.meaning.specs.State.{local};
 ghost use Rattle.meaning.specs.OwnSteps.{fresh, ours, shown, strip-pass};
 ghost use Rattle.layout.specs.Clocks.{decode-clock};
 ghost use Rattle.layout.specs.Image.{image-length, head-of, encode-head, encode-dots, encode, decode, goodImage};
 ghost use Rattle.layout.specs.Messages.{encode-reading};
-ghost use Rattle.layout.specs.Calls.{one-block};
-ghost use Rattle.writing.specs.Judged.{verdict-of};
-ghost use Rattle.sqimrutta.specs.Contracts.{Starts, Reads, Writes, Deletes, Asks, Strips};
+ghost use Rattle.layout.specs.Calls.{one-block, reply-room};
+ghost use Rattle.sqimrutta.specs.Contracts.{Starts, Reads, Writes, Deletes, TakesIn, Asks, Replies, Strips};
 ghost use Rattle.sqimrutta.specs.Admitted.{opened, admitted};
 
 // A fresh head: the own number and the table, and nothing seen.
@@ -126,7 +125,7 @@ fn is_ours(image: &[u8], k: Key) -> bool
 
 // Rows 1 and 2 of the table. `lengths` says whether those of the buffers beside the image are right.
 fn opens(image: &[u8], lengths: bool) -> Verdict
-    ensures { λ r. ⌜ r ≡ verdict-of (opened (now (image .entry)) lengths (accepted true)) ⌝ }
+    ensures { λ r. ⌜ r ≡ verdict-of (opened (now (image .entry)) lengths) ⌝ }
 {
     if image.len() != 34304 {
         return Verdict::Refused(Refusal::WrongLength);
@@ -253,6 +252,24 @@ pub extern "C" fn sqimrutta_delete(
     delete(image, job, point, context, out).number()
 }
 
+// ---- taking in
+
+pub fn take_in(image: &mut [u8], message: &[u8]) -> Verdict
+    ensures { λ r. ⌜ TakesIn (λ v. v) (now (image .entry)) (now (message .entry)) r (now (image .exit)) ⌝ }
+{
+    match opens(image, message.len() == 512) {
+        Verdict::Refused(r) => Verdict::Refused(r),
+        Verdict::Accepted => taking::take_in_at(image, message),
+    }
+}
+
+#[no_mangle]
+pub extern "C" fn sqimrutta_take_in(image: &mut [u8], message: &[u8]) -> u32
+    ensures { λ r. ⌜ TakesIn answer-number (now (image .entry)) (now (message .entry)) r (now (image .exit)) ⌝ }
+{
+    take_in(image, message).number()
+}
+
 // ---- asking
 
 pub fn ask(image: &[u8], to: u8, out: &mut [u8]) -> Verdict
@@ -269,6 +286,55 @@ pub extern "C" fn sqimrutta_ask(image: &[u8], to: u8, out: &mut [u8]) -> u32
     ensures { λ r. ⌜ Asks answer-number (now (image .entry)) to (now (out .entry)) r (now (out .exit)) ⌝ }
 {
     ask(image, to, out).number()
+}
+
+// ---- replying
+
+// One block for the ask; "a buffer for writing a reply has at least 61,952 bytes".
+fn reply_lengths(message: &[u8], out: &[u8]) -> bool
+    ensures { λ r. ⌜ r ≡ (one-block (now (message .entry)) && leb reply-room (length (now (out .entry)))) ⌝ }
+{
+    message.len() == 512 && 61952 <= out.len()
+}
+
+// The answer, and how many points were sent.
+pub fn reply(image: &[u8], message: &[u8], out: &mut [u8]) -> Tally
+    ensures { λ r. ⌜ Replies (λ v. v) (now (image .entry)) (now (message .entry)) (now (out .entry)) (r .verdict) (now (out .exit)) (r .count) ⌝ }
+{
+    match opens(image, reply_lengths(message, out)) {
+        Verdict::Refused(r) => Tally {
+            verdict: Verdict::Refused(r),
+            count: 0,
+        },
+        Verdict::Accepted => match replying::judge_ask(image, message) {
+            Verdict::Refused(q) => Tally {
+                verdict: Verdict::Refused(q),
+                count: 0,
+            },
+            Verdict::Accepted => {
+                let sent = replying::write_reply(image, message, out);
+                Tally {
+                    verdict: Verdict::Accepted,
+                    count: sent,
+                }
+            }
+        },
+    }
+}
+
+#[no_mangle]
+pub extern "C" fn sqimrutta_reply(
+    image: &[u8],
+    message: &[u8],
+    out: &mut [u8],
+    count: &mut u32,
+) -> u32
+    ensures { λ r. ⌜ Replies answer-number (now (image .entry)) (now (message .entry)) (now (out .entry)) r (now (out .exit)) (now (count .exit)) ⌝ }
+{
+    let replied = reply(image, message, out);
+    *count = replied.count;
+    let v = replied.verdict;
+    v.number()
 }
 
 // ---- strip pass

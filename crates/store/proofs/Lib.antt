@@ -4,3 +4,5 @@ pub mod Recorded
 pub mod Resulting
 pub mod Lent
 pub mod Untouched
+pub mod Record
+pub mod OneEntry

@@ -1,29 +1,24 @@
 -- An accepted and a refused judgement, whatever the result is. Assumes nothing.
 use Prim.Native.Nat.{_<_}
-use mathlib.Core.Path.{_≡_, refl, ap, _∙_}
+use mathlib.Core.Path.{_≡_, refl, _∙_}
 use mathlib.Core.Bool.{Bool, true, false, _&&_, not}
 use lib.ListN.{length}
 use lib.Dec.{leb}
 use borrow.Author.Tests.{leb-false}
 use Rattle.numbers.specs.declared.Key.{Key}
 use Rattle.numbers.specs.Numbers.{last-counter}
-use Rattle.numbers.proofs.Tests.{never}
-use Rattle.refusal.specs.declared.Verdict.{Verdict}
 use Rattle.refusal.specs.declared.Verdict.the-variants.{Accepted, Refused}
 use Rattle.refusal.specs.declared.Refusal.{Refusal}
 use Rattle.refusal.specs.declared.Refusal.the-variants.{ContextAhead, TooManyVersions, TooManyPoints, OwnListFull, CountersUsedUp}
-use Rattle.refusal.specs.Refusal.{Answer, refused, accepted, refuse_when_else_, _>>=_}
+use Rattle.refusal.specs.Refusal.{refused, accepted, refuse_when_else_, verdict-of}
 use Rattle.meaning.specs.Context.{Context}
 use Rattle.meaning.specs.State.{State, own-base}
 use Rattle.meaning.specs.Message.{most-versions}
 use Rattle.meaning.specs.Settle.{most-points, most-listed}
 use Rattle.meaning.specs.OwnSteps.{context-ahead}
-use Rattle.laws.proofs.Answers.{passes}
-use Rattle.writing.specs.Judged.{has-record, staying, own-judged, judged, verdict-of}
-
--- the judgement, and then another answer
-unfoldable pub then : {A : Type 0} → Answer Bool → Answer A → Answer A
-then a x = a >>= λ y. x
+use Rattle.laws.proofs.Answers.{passes, then, by-refusal, by-none}
+use Rattle.store.specs.HasRecord.{has-record}
+use Rattle.writing.specs.Judged.{staying, own-judged, judged}
 
 same-refusals : {A : Type 0} (x : A) (a b c d e : Bool)
     → (refuse ContextAhead when a else refuse TooManyVersions when b else refuse TooManyPoints when c else refuse OwnListFull when d else refuse CountersUsedUp when e else accepted x)
@@ -35,31 +30,6 @@ same-refusals x false false true d e = refl
 same-refusals x false false false true e = refl
 same-refusals x false false false false true = refl
 same-refusals x false false false false false = refl
-
-pub by-refusal : {A : Type 0} (x : Answer A) (a : Answer Bool) (r : Refusal) → verdict-of a ≡ Refused r → then a x ≡ refused r
-unfolding then
-by-refusal x (refused q) r e = ap refused (ap which e)
-  where
-    which : Verdict → Refusal
-    which Accepted = q
-    which (Refused p) = p
-by-refusal x (accepted y) r e = absurd (never {b = is-refused Accepted} (ap is-refused e) refl)
-  where
-    is-refused : Verdict → Bool
-    is-refused Accepted = false
-    is-refused (Refused p) = true
-
-pub accepted-with : (a : Answer Bool) → verdict-of a ≡ Accepted → (y : Bool) × (a ≡ accepted y)
-accepted-with (accepted y) e = (y, refl)
-accepted-with (refused q) e = absurd (never {b = is-accepted (Refused q)} (ap is-accepted e) refl)
-  where
-    is-accepted : Verdict → Bool
-    is-accepted Accepted = true
-    is-accepted (Refused p) = false
-
-pub by-none : {A : Type 0} (x : Answer A) (a : Answer Bool) → verdict-of a ≡ Accepted → then a x ≡ x
-unfolding then
-by-none x a e = ap (λ (b : Answer Bool). b >>= λ y. x) (accepted-with a e .1)
 
 module _ (s : State) (k : Key) (valued : Bool) (c : Context) where
   any-result : {A : Type 0} (x : A) → judged s k valued c x ≡ then (judged s k valued c true) (accepted x)

@@ -32,7 +32,7 @@ use Rattle.laws.proofs.Facts.{in-dots, dots-in}
 use Rattle.laws.proofs.Goodness.{Good}
 use Rattle.laws.proofs.Entering.{entered-row, entered-eight, counts, in-counts, counts-in, add-all-whole, same-clocks}
 use Rattle.laws.proofs.Local.{LocalFacts, local-facts}
-use Rattle.writing.proofs.OneEntry.{put-eight, put-here, put-elsewhere}
+use Rattle.store.proofs.OneEntry.{put-eight, put-here, put-elsewhere}
 
 module _ (s : State) (G : Good s) (k : Key) (b : Contents) (c : Context) (held : holds (s .table) (s .own) (k .job) ≡ true) where
   abbrev fresh : Version

@@ -9,7 +9,7 @@ use Rattle.numbers.specs.declared.Key.{Key}
 use Rattle.numbers.proofs.Tests.{and-right}
 use Rattle.numbers.specs.Key.{is-key}
 use Rattle.refusal.specs.declared.Verdict.the-variants.{Accepted}
-use Rattle.refusal.specs.Refusal.{accepted}
+use Rattle.refusal.specs.Refusal.{accepted, verdict-of}
 use Rattle.block.specs.Block.{Laid}
 use Rattle.meaning.specs.CrewTable.{holds}
 use Rattle.meaning.specs.Context.{Context}
@@ -29,7 +29,7 @@ use Rattle.layout.proofs.Sizes.{outgoing-sized}
 use Rattle.layout.proofs.MessagesBack.{outgoing-length}
 use Rattle.record_edits.specs.Written.{Written, lay-point, point-block}
 use Rattle.record_edits.proofs.Edits.{says-so}
-use Rattle.writing.specs.Judged.{judged, verdict-of}
+use Rattle.writing.specs.Judged.{judged}
 use Rattle.writing.specs.Recorded.{next-clock, recorded}
 use Rattle.writing.proofs.PutDown.{put-down-judged}
 use Rattle.writing.proofs.Accepted.{judged-accepted}

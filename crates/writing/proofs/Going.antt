@@ -1,9 +1,8 @@
 -- Whether the record of a write or a delete goes: never with a value, and always where nothing was stored and nothing is said. Assumes nothing.
 use Prim.Native.Nat.{_+_, _≤_}
 use mathlib.Core.Path.{_≡_, ap, ap₂, sym, _∙_, subst}
-use mathlib.Core.Logic.{⊎-elim}
 use mathlib.Core.Bool.{Bool, true, false, _&&_, not}
-use mathlib.Core.List.{List, [], _∷_}
+use mathlib.Core.List.{[], _∷_}
 use native.Mathlib.Omega.{arith}
 use borrow.Author.Tests.{le-leb}
 use Rattle.numbers.specs.declared.Controller.{Controller}
@@ -11,32 +10,24 @@ use Rattle.numbers.specs.declared.Counter.{Counter}
 use Rattle.numbers.specs.declared.Key.{Key}
 use Rattle.numbers.specs.Words.{if_then_else_, keep, some?, place}
 use Rattle.numbers.specs.Numbers.{controller, counter, same-controller, Crew}
-use Rattle.numbers.specs.Key.{same-key}
 use Rattle.numbers.proofs.Tests.{by-test, never}
-use Rattle.numbers.proofs.Lists.{in-some, none-in, place-here}
+use Rattle.numbers.proofs.Lists.{in-some, place-here}
 use Rattle.numbers.proofs.Controllers.{same-controllers}
-use Rattle.numbers.proofs.Dots.{key-itself}
 use Rattle.block.proofs.ByIndex.{all-below}
 use Rattle.block.proofs.Passing.{all-upto}
 use Rattle.meaning.specs.CrewTable.{holds}
 use Rattle.meaning.specs.Clock.{Clock, row}
 use Rattle.meaning.specs.Context.{Context, entry, is-empty, covers, strip-context}
 use Rattle.meaning.specs.Object.{Contents, has-value, Version, version-before, Object, no-object, fill, strip, gone}
-use Rattle.meaning.specs.State.{Stored, State, own-base, look-up, local}
+use Rattle.meaning.specs.State.{State, own-base, look-up, local}
 use Rattle.meaning.specs.Settle.{entered}
 use Rattle.meaning.specs.OwnSteps.{next-dot, written}
 use Rattle.laws.proofs.ContextLaws.{entry-each, no-entry, fill-holder, fill-other}
 use Rattle.laws.proofs.Goodness.{Good}
-use Rattle.laws.proofs.Putting.{looked-up}
 use Rattle.object.proofs.Going.{low, strips-empty}
-use Rattle.writing.specs.Judged.{has-record}
+use Rattle.store.specs.HasRecord.{has-record}
+use Rattle.store.proofs.Record.{look-up-none}
 use Rattle.writing.proofs.ClockAfter.{row-other, row-own}
-
--- nothing is stored for a point without a record
-pub look-up-none : (k : Key) (ps : List Stored) → has-record k ps ≡ false → look-up k ps ≡ no-object
-unfolding has-record
-look-up-none k ps none =
-    ⊎-elim (λ q. never (subst (λ (x : Key). same-key k x ≡ true) (sym (q .2)) (key-itself k)) (none-in (λ p. same-key k (p .key)) ps none (q .1))) (λ e. e) (looked-up k ps)
 
 -- a context that is nowhere above the clock strips to the empty one
 strips-to-none : (k : Clock) (c : Context) → ((n : Controller) → Crew n → entry c n .0 ≤ row k n .base) → is-empty (strip-context k c) ≡ true

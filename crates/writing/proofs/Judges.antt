@@ -1,68 +1,32 @@
 -- What the code asks of a record, or of none, is what `judged` asks of the state. Assumes nothing.
-use Prim.Native.Nat.{ℕ, _+_, _*_, _-_, _≤_, _<_}
-use mathlib.Core.Path.{_≡_, refl, ap, ap₂, sym, _∙_, subst}
+use Prim.Native.Nat.{ℕ, _<_}
+use mathlib.Core.Path.{_≡_, ap, ap₂, sym, _∙_}
 use mathlib.Core.Bool.{Bool, true, false, _&&_, not}
 use mathlib.Core.List.{List}
 use native.Mathlib.Omega.{arith}
-use lib.ListN.{length, take, drop, getD, replicate}
+use lib.ListN.{length}
 use lib.Dec.{leb, ltb}
 use Rattle.numbers.specs.declared.Key.{Key}
 use Rattle.numbers.specs.Words.{keep, some?}
-use Rattle.numbers.specs.Numbers.{is-controller, controllers}
-use Rattle.numbers.specs.Key.{same-key, key-before}
-use Rattle.numbers.proofs.Tests.{by-test, never, not-true}
-use Rattle.numbers.proofs.Lists.{in-all, all-in, in-some, some-in}
-use Rattle.numbers.proofs.Controllers.{is-crew}
-use Rattle.numbers.proofs.Dots.{key-order, same-keys, key-itself}
-use Rattle.block.specs.Fields.{cut, field}
-use Rattle.block.proofs.Numbers.{Bytes, bytes-cut}
-use Rattle.block.proofs.Parts.{part-is}
-use Rattle.block.proofs.Arrays.{getD-in}
-use Rattle.block.proofs.Placed.{all-others}
+use Rattle.numbers.specs.Numbers.{controllers}
+use Rattle.numbers.proofs.Tests.{by-test}
+use Rattle.block.specs.Fields.{cut}
 use Rattle.meaning.specs.CrewTable.{CrewTable}
 use Rattle.meaning.specs.Clock.{Clock}
-use Rattle.meaning.specs.Context.{Context, entry, covers, fill-context, no-context}
-use Rattle.meaning.specs.Object.{Object, no-object, fill}
+use Rattle.meaning.specs.Context.{Context, entry, covers, fill-context}
+use Rattle.meaning.specs.Object.{Object, fill}
 use Rattle.meaning.specs.State.{Stored, State, look-up, local}
 use Rattle.meaning.specs.Settle.{most-points}
 use Rattle.meaning.specs.OwnSteps.{context-ahead}
 use Rattle.layout.specs.Clocks.{decode-clock}
-use Rattle.layout.specs.PointBlock.{form-1, unsent, decode-context, decode-point}
-use Rattle.layout.specs.Image.{image-length, decode, goodImage}
-use Rattle.dots.specs.declared.Found.the-variants.{At, Before}
-use Rattle.record.specs.Crewed.{crewed}
-use Rattle.record_edits.specs.Written.{Written, lay-point, point-block}
-use Rattle.record_edits.proofs.Edits.{count-is, few-versions}
-use Rattle.image.specs.Places.{no-point, Point-in}
-use Rattle.image.proofs.Placing.{look-up-at}
-use Rattle.store.proofs.Lent.{table-part, clock-part, good-now, good-ascends, good-canonical}
-use Rattle.store.proofs.Stripped.{says, record-size}
-use Rattle.writing.specs.Judged.{has-record, staying}
-use Rattle.writing.proofs.Going.{look-up-none}
-
--- ---- whether there is a record
-
-pub record-there : (k : Key) (ps : List Stored) (i : ℕ) → Point-in ps k (At i) → has-record k ps ≡ true
-unfolding has-record
-record-there k ps i at = in-some (λ p. same-key k (p .key)) ps (getD-in ps i no-point (at .0)) (ap (same-key k) (at .1) ∙ key-itself k)
-
-pub record-none : (k : Key) (ps : List Stored) (i : ℕ) → Point-in ps k (Before i) → has-record k ps ≡ false
-unfolding has-record
-record-none k ps i new =
-    by-test (some? (λ p. same-key k (p .key)) ps)
-    (λ t. let q = some-in (λ p. same-key k (p .key)) ps t in
-    never (q .2) (not-true (same-key k (q .0 .key)) (all-in (λ p. not (same-key k (p .key))) ps (all-others (λ p. p .key) key-before key-order same-key same-keys key-itself k ps i (new .1) (new .2)) (q .1))))
-    (λ t. t)
+use Rattle.layout.specs.PointBlock.{decode-context}
+use Rattle.layout.specs.Image.{image-length, decode}
+use Rattle.store.proofs.Lent.{table-part, clock-part}
+use Rattle.store.proofs.Record.{look-up-none}
+use Rattle.store.specs.HasRecord.{has-record}
+use Rattle.writing.specs.Judged.{staying}
 
 -- ---- 8 and 12
-
-pub context-of : (b : List ℕ) → decode-point form-1 b .object .context ≡ decode-context (cut b 8 32)
-unfolding decode-point
-context-of b = refl
-
-pub job-of : (b : List ℕ) → field b 4 1 ≡ decode-point form-1 b .key .job
-unfolding decode-point
-job-of b = refl
 
 module _ (img : List ℕ) (size : length img ≡ image-length) (k : Key) (c : Context) where
   abbrev s : State
@@ -81,17 +45,8 @@ module _ (img : List ℕ) (size : length img ≡ image-length) (k : Key) (c : Co
   -- ---- none
 
   module _ (none : has-record k (decode img .points) ≡ false) where
-    nothing : look-up k (decode img .points) ≡ no-object
-    nothing = look-up-none k (decode img .points) none
-
-    pub no-entries : look-up k (decode img .points) .context ≡ decode-context (replicate 32 0)
-    no-entries = ap (λ (o : Object). o .context) nothing ∙ empty
-      where
-        empty : no-context ≡ decode-context (replicate 32 0)
-        empty = unfold decode-context field Rattle.block.specs.Fields.number in refl
-
     pub none-stays : length (staying (decode img) k c) < 8
-    none-stays = omega (arith, ap (λ (o : Object). length (keep (λ v. not (covers c (v .dot))) (o .versions))) nothing)
+    none-stays = omega (arith, ap (λ (o : Object). length (keep (λ v. not (covers c (v .dot))) (o .versions))) (look-up-none k (decode img .points) none))
 
     -- a point without a record needs a place for a value
     pub place-needed : (v b : Bool) (n : ℕ) → n ≡ length (decode img .points) → b ≡ (v && leb most-points n) → (v && (not (has-record k (decode img .points)) && leb most-points (length (decode img .points)))) ≡ b
@@ -100,42 +55,3 @@ module _ (img : List ℕ) (size : length img ≡ image-length) (k : Key) (c : Co
 -- a record has its place
 pub has-place : (k : Key) (ps : List Stored) (v : Bool) → has-record k ps ≡ true → (v && (not (has-record k ps) && leb most-points (length ps))) ≡ false
 has-place k ps v t = by-test v (λ u. rw (u, t)) (λ u. rw u)
-
--- ---- the record that was found
-
-module _ (img : List ℕ) (small : Bytes img) (size : length img ≡ image-length) (good : goodImage img ≡ true) (k : Key) (i : ℕ) (at : Point-in (decode img .points) k (At i)) where
-  abbrev lent : List ℕ
-  lent = take (512 * (3 + i) + 512 - 512 * (3 + i)) (drop (512 * (3 + i)) img)
-
-  abbrev p : Stored
-  p = getD (decode img .points) i no-point
-
-  it-says : (point-block lent ≡ record { kind = 3; position = 3 + i; point = unsent p }) × Rattle.block.specs.Block.Laid lay-point point-block lent
-  it-says = says img small size (good-canonical img good) i (at .0)
-
-  pub lent-long : length (take (512 * (3 + i) + 512 - 512 * (3 + i)) (drop (512 * (3 + i)) img)) ≡ 512
-  lent-long = record-size img small size (good-canonical img good) i (at .0)
-
-  lent-small : Bytes lent
-  lent-small = subst Bytes (sym (part-is img (512 * (3 + i)) 512)) (bytes-cut img (512 * (3 + i)) 512 small)
-
-  pub lent-few : field (take (512 * (3 + i) + 512 - 512 * (3 + i)) (drop (512 * (3 + i)) img)) 5 1 ≤ 8
-  lent-few = omega (arith, count-is lent lent-small lent-long (it-says .1), few-versions lent lent-small lent-long (it-says .1))
-
-  pub lent-key : decode-point form-1 (take (512 * (3 + i) + 512 - 512 * (3 + i)) (drop (512 * (3 + i)) img)) .key ≡ k
-  lent-key = ap (λ (w : Written). w .point .key) (it-says .0) ∙ at .1
-
-  lent-object : decode-point form-1 lent .object ≡ p .object
-  lent-object = ap (λ (w : Written). w .point .object) (it-says .0)
-
-  pub lent-crewed : crewed (decode-point form-1 (take (512 * (3 + i) + 512 - 512 * (3 + i)) (drop (512 * (3 + i)) img)) .object .versions) ≡ true
-  unfolding crewed
-  lent-crewed =
-      ap (λ (o : Object). crewed (o .versions)) lent-object
-      ∙ in-all (λ v. is-controller (v .dot .who)) (p .object .versions) (λ v m. is-crew (v .dot .who) (good-now img good .points p (getD-in (decode img .points) i no-point (at .0)) .formed .versions .each v m .crew))
-
-  pub lent-stored : has-record (decode-point form-1 (take (512 * (3 + i) + 512 - 512 * (3 + i)) (drop (512 * (3 + i)) img)) .key) (decode img .points) ≡ true
-  lent-stored = ap (λ (x : Key). has-record x (decode img .points)) lent-key ∙ record-there k (decode img .points) i at
-
-  pub lent-looked-up : look-up (decode-point form-1 (take (512 * (3 + i) + 512 - 512 * (3 + i)) (drop (512 * (3 + i)) img)) .key) (decode img .points) ≡ decode-point form-1 (take (512 * (3 + i) + 512 - 512 * (3 + i)) (drop (512 * (3 + i)) img)) .object
-  lent-looked-up = ap (λ (x : Key). look-up x (decode img .points)) lent-key ∙ look-up-at k (decode img .points) i (good-ascends img good) at ∙ sym lent-object

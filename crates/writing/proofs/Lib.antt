@@ -1,4 +1,3 @@
-pub mod OneEntry
 pub mod ClockAfter
 pub mod ListsAfter
 pub mod Judging

@@ -30,7 +30,7 @@ use Rattle.record.specs.Crewed.{crewed}
 use Rattle.record_edits.specs.Written.{Written, lay-point, point-block, with-object, with-versions, put-entry}
 use Rattle.store.proofs.Lent.{table-part, clock-part}
 use Rattle.writing.specs.Judged.{staying}
-use Rattle.writing.proofs.OneEntry.{put-as-each}
+use Rattle.store.proofs.OneEntry.{put-as-each}
 
 module _ (s : State) (G : Good s) (k : Key) (held : holds (s .table) (s .own) (k .job) ≡ true) (c : Context) where
   -- a message about k from us that says o

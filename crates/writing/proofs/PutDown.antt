@@ -28,7 +28,8 @@ use Rattle.meaning.specs.Settle.{most-points, most-listed, entered, without, st
 use Rattle.meaning.specs.OwnSteps.{written, context-ahead, Done, put-down}
 use Rattle.laws.proofs.Goodness.{Good}
 use Rattle.laws.proofs.Putting.{stored-order}
-use Rattle.writing.specs.Judged.{has-record, staying, own-judged, judged}
+use Rattle.store.specs.HasRecord.{has-record}
+use Rattle.writing.specs.Judged.{staying, own-judged, judged}
 use Rattle.writing.proofs.Judging.{place-one-more, rows-fit, versions-after}
 use Rattle.writing.proofs.Going.{value-stays, deletion-goes}
 

@@ -9,13 +9,14 @@ use Rattle.numbers.specs.declared.Key.{Key}
 use Rattle.numbers.specs.Numbers.{last-counter}
 use Rattle.refusal.specs.declared.Verdict.the-variants.{Accepted, Refused}
 use Rattle.refusal.specs.declared.Refusal.the-variants.{ContextAhead, TooManyVersions, TooManyPoints, OwnListFull, CountersUsedUp}
-use Rattle.refusal.specs.Refusal.{refuse_when_else_}
+use Rattle.refusal.specs.Refusal.{refuse_when_else_, verdict-of}
 use Rattle.meaning.specs.Context.{Context}
 use Rattle.meaning.specs.State.{State, own-base}
 use Rattle.meaning.specs.Settle.{most-points, most-listed}
 use Rattle.meaning.specs.Message.{most-versions}
 use Rattle.meaning.specs.OwnSteps.{context-ahead}
-use Rattle.writing.specs.Judged.{has-record, staying, own-judged, judged, verdict-of}
+use Rattle.store.specs.HasRecord.{has-record}
+use Rattle.writing.specs.Judged.{staying, own-judged, judged}
 
 module _ (s : State) where
   pub list-full : most-listed ≤ length (s .own-dots) → Refused OwnListFull ≡ verdict-of (own-judged s true)

@@ -14,7 +14,7 @@ use Rattle.numbers.proofs.Lists.{in-all}
 use Rattle.refusal.specs.declared.Verdict.the-variants.{Accepted, Refused}
 use Rattle.refusal.specs.declared.Refusal.{Refusal}
 use Rattle.refusal.specs.declared.Refusal.the-variants.{ValueTooLong}
-use Rattle.refusal.specs.Refusal.{Answer, refused, accepted, refuse_when_else_}
+use Rattle.refusal.specs.Refusal.{Answer, refused, accepted, refuse_when_else_, verdict-of}
 use Rattle.block.proofs.Numbers.{Bytes}
 use Rattle.meaning.specs.Context.{Context}
 use Rattle.meaning.specs.Object.{Contents, value, deleted, has-value, Version}
@@ -29,7 +29,7 @@ use Rattle.layout.specs.Messages.{encode-outgoing}
 use Rattle.layout.specs.Calls.{After, afterwards}
 use Rattle.layout.proofs.PointBack.{SlotSized, slot-back}
 use Rattle.store.proofs.Untouched.{untouched}
-use Rattle.writing.specs.Judged.{judged, verdict-of}
+use Rattle.writing.specs.Judged.{judged}
 use Rattle.writing.specs.LeftBy.{left-by}
 use Rattle.writing.proofs.PutDown.{put-down-judged}
 use Rattle.writing.proofs.Accepted.{judged-refused}

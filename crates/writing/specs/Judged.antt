@@ -4,23 +4,17 @@ use mathlib.Core.List.{List}
 use lib.ListN.{length}
 use lib.Dec.{leb}
 use Rattle.numbers.specs.declared.Key.{Key}
-use Rattle.numbers.specs.Words.{keep, some?}
+use Rattle.numbers.specs.Words.{keep}
 use Rattle.numbers.specs.Numbers.{last-counter}
-use Rattle.numbers.specs.Key.{same-key}
-use Rattle.refusal.specs.declared.Verdict.{Verdict}
-use Rattle.refusal.specs.declared.Verdict.the-variants.{Accepted, Refused}
 use Rattle.refusal.specs.declared.Refusal.the-variants.{ContextAhead, TooManyVersions, TooManyPoints, OwnListFull, CountersUsedUp}
-use Rattle.refusal.specs.Refusal.{Answer, refused, accepted, refuse_when_else_}
+use Rattle.refusal.specs.Refusal.{Answer, accepted, refuse_when_else_}
 use Rattle.meaning.specs.Context.{Context, covers}
 use Rattle.meaning.specs.Object.{Version}
-use Rattle.meaning.specs.State.{Stored, State, own-base, look-up}
+use Rattle.meaning.specs.State.{State, own-base, look-up}
 use Rattle.meaning.specs.Message.{most-versions}
 use Rattle.meaning.specs.Settle.{most-points, most-listed}
 use Rattle.meaning.specs.OwnSteps.{context-ahead}
-
--- the point has a record
-unfoldable pub has-record : Key → List Stored → Bool
-has-record k ps = some? (λ p. same-key k (p .key)) ps
+use Rattle.store.specs.HasRecord.{has-record}
 
 -- the stored versions of the point that the given context does not cover
 abbrev pub staying : State → Key → Context → List Version
@@ -41,8 +35,3 @@ judged s k valued c a =
     refuse TooManyVersions when leb most-versions (length (staying s k c)) else
     refuse TooManyPoints when valued && (not (has-record k (s .points)) && leb most-points (length (s .points))) else
     own-judged s a
-
--- what is answered, without the result
-abbrev pub verdict-of : {A : Type 0} → Answer A → Verdict
-verdict-of (refused r) = Refused r
-verdict-of (accepted a) = Accepted

@@ -29,7 +29,9 @@ ghost use Rattle.layout.specs.Messages.{encode-outgoing};
 ghost use Rattle.layout.specs.Calls.{afterwards};
 ghost use Rattle.record.specs.Crewed.{crewed};
 ghost use Rattle.record_edits.specs.Written.{lay-point, point-block};
-ghost use Rattle.writing.specs.Judged.{has-record, staying, own-judged, judged, verdict-of};
+ghost use Rattle.refusal.specs.Refusal.{verdict-of};
+ghost use Rattle.store.specs.HasRecord.{has-record};
+ghost use Rattle.writing.specs.Judged.{staying, own-judged, judged};
 ghost use Rattle.writing.specs.LeftBy.{left-by};
 ghost use Rattle.writing.specs.Recorded.{next-clock, recorded};
 

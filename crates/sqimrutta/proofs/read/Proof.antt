@@ -1,9 +1,9 @@
 -- `sqimrutta::read` meets its contract. Refused by rows 1, 2 and 5, or the reading (Reading). Assumes nothing.
-use Prim.Native.Nat.{_-_}
 use denote.Ref.{now}
 use mathlib.Core.Path.{ap, sym, _∙_}
 use borrow.Author.Tests.{eqb-true}
 use lib.ListN.{length}
+use Rattle.refusal.specs.Refusal.{verdict-of}
 use Rattle.numbers.specs.declared.Key.{Key}
 use Rattle.numbers.specs.Key.{key}
 use Rattle.meaning.specs.State.{local}
@@ -11,7 +11,6 @@ use Rattle.meaning.specs.OwnSteps.{shown}
 use Rattle.layout.specs.Image.{decode}
 use Rattle.layout.specs.Messages.{encode-reading}
 use Rattle.layout.specs.Calls.{After, one-block}
-use Rattle.writing.specs.Judged.{verdict-of}
 use Rattle.sqimrutta.specs.Admitted.{admitted}
 use Rattle.sqimrutta.proofs.Ladder.{what-is-admitted}
 use Rattle.sqimrutta.proofs.Reading.{read-refused, read-shown}

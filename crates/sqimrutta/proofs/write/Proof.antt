@@ -1,11 +1,11 @@
 -- `sqimrutta::write` meets its contract. Refused by rows 1, 2 and 5, or what the step answers (Writing). Assumes nothing.
-use Prim.Native.Nat.{_-_}
 use denote.Ref.{now}
 use mathlib.Core.Path.{_≡_, ap, ap₂, sym, _∙_, subst}
 use mathlib.Core.Bool.{Bool, true, _&&_}
 use borrow.Author.Tests.{eqb-true}
 use lib.ListN.{length}
 use lib.Dec.{eqb}
+use Rattle.refusal.specs.Refusal.{verdict-of}
 use Rattle.numbers.specs.declared.Key.{Key}
 use Rattle.numbers.specs.Words.{map}
 use Rattle.numbers.specs.Numbers.{counter}
@@ -14,7 +14,6 @@ use Rattle.numbers.proofs.Tests.{and-left, and-right}
 use Rattle.meaning.specs.OwnSteps.{ours, write}
 use Rattle.layout.specs.Image.{decode}
 use Rattle.layout.specs.Calls.{After, afterwards, one-block}
-use Rattle.writing.specs.Judged.{verdict-of}
 use Rattle.writing.specs.LeftBy.{left-by}
 use Rattle.sqimrutta.specs.Admitted.{admitted}
 use Rattle.sqimrutta.proofs.Ladder.{what-is-admitted}

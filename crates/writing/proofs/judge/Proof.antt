@@ -1,5 +1,4 @@
 -- `writing::judge` meets its contract. By the record that was found, or by none (Judges). Assumes nothing.
-use Prim.Native.Nat.{_-_}
 use denote.Ref.{now}
 use mathlib.Core.Path.{ap, _∙_}
 use native.Mathlib.Omega.{arith}
@@ -14,8 +13,9 @@ use Rattle.image_edits.proofs.Blocks.{image-decoded}
 use Rattle.image_edits.proofs.Fetching.{search-ascends, search-few}
 use Rattle.store.proofs.Lent.{counted, good-ascends, good-canonical}
 use Rattle.store.proofs.Resulting.{found-is}
-use Rattle.writing.specs.Judged.{judged, verdict-of}
-use Rattle.writing.proofs.Judges.{record-none, lent-long, lent-few, lent-key, lent-crewed, lent-stored, lent-looked-up}
+use Rattle.refusal.specs.Refusal.{verdict-of}
+use Rattle.writing.specs.Judged.{judged}
+use Rattle.store.proofs.Record.{record-none, lent-long, lent-few, lent-key, lent-crewed, lent-stored, lent-looked-up}
 use borrow.Author.Needs.{needs}
 use Rattle.writing.proofs.judge.Statement.{statement}
 use Rattle.writing.proofs.judge.Tie as tie

@@ -6,7 +6,8 @@ use Rattle.numbers.specs.Words.{map}
 use Rattle.numbers.specs.Numbers.{counter}
 use Rattle.layout.specs.Image.{decode}
 use Rattle.writing.proofs.Rows.{ahead, many-points, place-left}
-use Rattle.writing.proofs.Judges.{ahead-is, no-entries, none-stays, place-needed}
+use Rattle.store.proofs.Record.{no-entries}
+use Rattle.writing.proofs.Judges.{ahead-is, none-stays, place-needed}
 use borrow.Author.Needs.{needs}
 use Rattle.writing.proofs.judge_new.Statement.{statement}
 use Rattle.writing.proofs.judge_new.Tie as tie
@@ -41,19 +42,19 @@ ahead-requires : tie.Need-ahead-requires
 ahead-requires c κs = search needs
 
 returns : tie.Need-returns
-returns c = ahead (decode (now (c .before .before .before .before .before .before .before .args .image))) (c .before .before .before .before .before .before .before .args .k) (c .before .before .before .before .before .before .before .args .valued) (map counter (now (c .before .before .before .before .before .before .before .args .context))) (sym (ahead-is (now (c .before .before .before .before .before .before .before .args .image)) (c .before .before .before .before .before .before .before .pre .0) (c .before .before .before .before .before .before .before .args .k) (map counter (now (c .before .before .before .before .before .before .before .args .context))) _ _ (c .before .ahead .result) (no-entries (now (c .before .before .before .before .before .before .before .args .image)) (c .before .before .before .before .before .before .before .pre .0) (c .before .before .before .before .before .before .before .args .k) (map counter (now (c .before .before .before .before .before .before .before .args .context))) (c .before .before .before .before .before .before .before .pre .4)) refl (c .before .ahead .ensures)) ∙ c .if1 .taken)
+returns c = ahead (decode (now (c .before .before .before .before .before .before .before .args .image))) (c .before .before .before .before .before .before .before .args .k) (c .before .before .before .before .before .before .before .args .valued) (map counter (now (c .before .before .before .before .before .before .before .args .context))) (sym (ahead-is (now (c .before .before .before .before .before .before .before .args .image)) (c .before .before .before .before .before .before .before .pre .0) (c .before .before .before .before .before .before .before .args .k) (map counter (now (c .before .before .before .before .before .before .before .args .context))) _ _ (c .before .ahead .result) (no-entries (now (c .before .before .before .before .before .before .before .args .image)) (c .before .before .before .before .before .before .before .args .k) (c .before .before .before .before .before .before .before .pre .4)) refl (c .before .ahead .ensures)) ∙ c .if1 .taken)
 
 no-place-requires : tie.Need-no-place-requires
 no-place-requires c κs = search needs
 
 returns-2 : tie.Need-returns-2
-returns-2 c = many-points (decode (now (c .before .before .before .before .before .before .before .before .before .args .image))) (c .before .before .before .before .before .before .before .before .before .args .k) (c .before .before .before .before .before .before .before .before .before .args .valued) (map counter (now (c .before .before .before .before .before .before .before .before .before .args .context))) (sym (ahead-is (now (c .before .before .before .before .before .before .before .before .before .args .image)) (c .before .before .before .before .before .before .before .before .before .pre .0) (c .before .before .before .before .before .before .before .before .before .args .k) (map counter (now (c .before .before .before .before .before .before .before .before .before .args .context))) _ _ (c .before .before .before .ahead .result) (no-entries (now (c .before .before .before .before .before .before .before .before .before .args .image)) (c .before .before .before .before .before .before .before .before .before .pre .0) (c .before .before .before .before .before .before .before .before .before .args .k) (map counter (now (c .before .before .before .before .before .before .before .before .before .args .context))) (c .before .before .before .before .before .before .before .before .before .pre .4)) refl (c .before .before .before .ahead .ensures)) ∙ c .before .before .if1 .left) (none-stays (now (c .before .before .before .before .before .before .before .before .before .args .image)) (c .before .before .before .before .before .before .before .before .before .pre .0) (c .before .before .before .before .before .before .before .before .before .args .k) (map counter (now (c .before .before .before .before .before .before .before .before .before .args .context))) (c .before .before .before .before .before .before .before .before .before .pre .4)) (place-needed (now (c .before .before .before .before .before .before .before .before .before .args .image)) (c .before .before .before .before .before .before .before .before .before .pre .0) (c .before .before .before .before .before .before .before .before .before .args .k) (map counter (now (c .before .before .before .before .before .before .before .before .before .args .context))) (c .before .before .before .before .before .before .before .before .before .pre .4) (c .before .before .before .before .before .before .before .before .before .args .valued) (c .before .no-place .result) (c .before .before .before .before .before .before .before .before .before .args .count) (c .before .before .before .before .before .before .before .before .before .pre .2) (c .before .no-place .ensures) ∙ c .if2 .taken)
+returns-2 c = many-points (decode (now (c .before .before .before .before .before .before .before .before .before .args .image))) (c .before .before .before .before .before .before .before .before .before .args .k) (c .before .before .before .before .before .before .before .before .before .args .valued) (map counter (now (c .before .before .before .before .before .before .before .before .before .args .context))) (sym (ahead-is (now (c .before .before .before .before .before .before .before .before .before .args .image)) (c .before .before .before .before .before .before .before .before .before .pre .0) (c .before .before .before .before .before .before .before .before .before .args .k) (map counter (now (c .before .before .before .before .before .before .before .before .before .args .context))) _ _ (c .before .before .before .ahead .result) (no-entries (now (c .before .before .before .before .before .before .before .before .before .args .image)) (c .before .before .before .before .before .before .before .before .before .args .k) (c .before .before .before .before .before .before .before .before .before .pre .4)) refl (c .before .before .before .ahead .ensures)) ∙ c .before .before .if1 .left) (none-stays (now (c .before .before .before .before .before .before .before .before .before .args .image)) (c .before .before .before .before .before .before .before .before .before .pre .0) (c .before .before .before .before .before .before .before .before .before .args .k) (map counter (now (c .before .before .before .before .before .before .before .before .before .args .context))) (c .before .before .before .before .before .before .before .before .before .pre .4)) (place-needed (now (c .before .before .before .before .before .before .before .before .before .args .image)) (c .before .before .before .before .before .before .before .before .before .pre .0) (c .before .before .before .before .before .before .before .before .before .args .k) (map counter (now (c .before .before .before .before .before .before .before .before .before .args .context))) (c .before .before .before .before .before .before .before .before .before .pre .4) (c .before .before .before .before .before .before .before .before .before .args .valued) (c .before .no-place .result) (c .before .before .before .before .before .before .before .before .before .args .count) (c .before .before .before .before .before .before .before .before .before .pre .2) (c .before .no-place .ensures) ∙ c .if2 .taken)
 
 judge-own-requires : tie.Need-judge-own-requires
 judge-own-requires c κs = search needs
 
 returns-3 : tie.Need-returns-3
-returns-3 c = c .judge-own .ensures ∙ place-left (decode (now (c .before .before .before .before .before .before .before .before .before .before .args .image))) (c .before .before .before .before .before .before .before .before .before .before .args .k) (c .before .before .before .before .before .before .before .before .before .before .args .valued) (map counter (now (c .before .before .before .before .before .before .before .before .before .before .args .context))) (sym (ahead-is (now (c .before .before .before .before .before .before .before .before .before .before .args .image)) (c .before .before .before .before .before .before .before .before .before .before .pre .0) (c .before .before .before .before .before .before .before .before .before .before .args .k) (map counter (now (c .before .before .before .before .before .before .before .before .before .before .args .context))) _ _ (c .before .before .before .before .ahead .result) (no-entries (now (c .before .before .before .before .before .before .before .before .before .before .args .image)) (c .before .before .before .before .before .before .before .before .before .before .pre .0) (c .before .before .before .before .before .before .before .before .before .before .args .k) (map counter (now (c .before .before .before .before .before .before .before .before .before .before .args .context))) (c .before .before .before .before .before .before .before .before .before .before .pre .4)) refl (c .before .before .before .before .ahead .ensures)) ∙ c .before .before .before .if1 .left) (none-stays (now (c .before .before .before .before .before .before .before .before .before .before .args .image)) (c .before .before .before .before .before .before .before .before .before .before .pre .0) (c .before .before .before .before .before .before .before .before .before .before .args .k) (map counter (now (c .before .before .before .before .before .before .before .before .before .before .args .context))) (c .before .before .before .before .before .before .before .before .before .before .pre .4)) (place-needed (now (c .before .before .before .before .before .before .before .before .before .before .args .image)) (c .before .before .before .before .before .before .before .before .before .before .pre .0) (c .before .before .before .before .before .before .before .before .before .before .args .k) (map counter (now (c .before .before .before .before .before .before .before .before .before .before .args .context))) (c .before .before .before .before .before .before .before .before .before .before .pre .4) (c .before .before .before .before .before .before .before .before .before .before .args .valued) (c .before .before .no-place .result) (c .before .before .before .before .before .before .before .before .before .before .args .count) (c .before .before .before .before .before .before .before .before .before .before .pre .2) (c .before .before .no-place .ensures) ∙ c .before .if2 .left)
+returns-3 c = c .judge-own .ensures ∙ place-left (decode (now (c .before .before .before .before .before .before .before .before .before .before .args .image))) (c .before .before .before .before .before .before .before .before .before .before .args .k) (c .before .before .before .before .before .before .before .before .before .before .args .valued) (map counter (now (c .before .before .before .before .before .before .before .before .before .before .args .context))) (sym (ahead-is (now (c .before .before .before .before .before .before .before .before .before .before .args .image)) (c .before .before .before .before .before .before .before .before .before .before .pre .0) (c .before .before .before .before .before .before .before .before .before .before .args .k) (map counter (now (c .before .before .before .before .before .before .before .before .before .before .args .context))) _ _ (c .before .before .before .before .ahead .result) (no-entries (now (c .before .before .before .before .before .before .before .before .before .before .args .image)) (c .before .before .before .before .before .before .before .before .before .before .args .k) (c .before .before .before .before .before .before .before .before .before .before .pre .4)) refl (c .before .before .before .before .ahead .ensures)) ∙ c .before .before .before .if1 .left) (none-stays (now (c .before .before .before .before .before .before .before .before .before .before .args .image)) (c .before .before .before .before .before .before .before .before .before .before .pre .0) (c .before .before .before .before .before .before .before .before .before .before .args .k) (map counter (now (c .before .before .before .before .before .before .before .before .before .before .args .context))) (c .before .before .before .before .before .before .before .before .before .before .pre .4)) (place-needed (now (c .before .before .before .before .before .before .before .before .before .before .args .image)) (c .before .before .before .before .before .before .before .before .before .before .pre .0) (c .before .before .before .before .before .before .before .before .before .before .args .k) (map counter (now (c .before .before .before .before .before .before .before .before .before .before .args .context))) (c .before .before .before .before .before .before .before .before .before .before .pre .4) (c .before .before .before .before .before .before .before .before .before .before .args .valued) (c .before .before .no-place .result) (c .before .before .before .before .before .before .before .before .before .before .args .count) (c .before .before .before .before .before .before .before .before .before .before .pre .2) (c .before .before .no-place .ensures) ∙ c .before .if2 .left)
 
 pub judge-new-spec : {M : Type 1} → statement M
 judge-new-spec =

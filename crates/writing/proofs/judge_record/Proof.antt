@@ -10,7 +10,8 @@ use Rattle.meaning.specs.Object.{Object}
 use Rattle.layout.specs.PointBlock.{form-1, decode-point}
 use Rattle.layout.specs.Image.{decode}
 use Rattle.writing.proofs.Rows.{ahead, many-versions, place-left}
-use Rattle.writing.proofs.Judges.{context-of, job-of, ahead-is, staying-is, has-place}
+use Rattle.store.proofs.Record.{context-of, job-of}
+use Rattle.writing.proofs.Judges.{ahead-is, staying-is, has-place}
 use borrow.Author.Needs.{needs}
 use Rattle.writing.proofs.judge_record.Statement.{statement}
 use Rattle.writing.proofs.judge_record.Tie as tie

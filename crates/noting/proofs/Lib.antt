@@ -1,0 +1,4 @@
+pub mod Choosing
+pub mod Looking
+pub mod Placing
+pub mod Rounds

@@ -1,0 +1,3 @@
+pub mod Judged
+pub mod Nearest
+pub mod Sent
