@@ -142,7 +142,7 @@ fn enter_row(image: &[u8], count: usize, points: &[u8], n: Controller, r: Row) -
 }
 
 // Controller n's row, of eight.
-fn put_row(rows: &mut [u8], n: Controller, r: Row)
+pub fn put_row(rows: &mut [u8], n: Controller, r: Row)
     requires { ⌜ (length (now rows) ≡ 96) × Crew n ⌝ }
     ensures { λ _. ⌜ (decode-clock (now (rows .exit)) ≡ put-at (decode-clock (now (rows .entry))) (n .0 - 1) r) × (length (now (rows .exit)) ≡ 96) ⌝ }
 {

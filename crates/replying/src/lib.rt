@@ -47,7 +47,7 @@ fn row_ahead(r: Row, base: u32) -> bool
 }
 
 // 9: "message names, in a .. clock row, an own counter above our base: our history is lost"
-fn ahead_of_us(image: &[u8], rows: &[u8]) -> bool
+pub fn ahead_of_us(image: &[u8], rows: &[u8]) -> bool
     requires { ⌜ (length (now image) ≡ image-length) × (goodImage (now image) ≡ true) × (length (now rows) ≡ 96) ⌝ }
     ensures { λ r. ⌜ r ≡ row-ahead-of-us (decode (now (image .entry))) (decode-clock (now (rows .entry))) ⌝ }
 {
@@ -57,7 +57,7 @@ fn ahead_of_us(image: &[u8], rows: &[u8]) -> bool
 }
 
 // 6: ".. or addressee not us"
-fn is_for_us(image: &[u8], message: &[u8]) -> bool
+pub fn is_for_us(image: &[u8], message: &[u8]) -> bool
     requires { ⌜ (length (now image) ≡ image-length) × (length (now message) ≡ 512) ⌝ }
     ensures { λ r. ⌜ r ≡ same-controller (decode-ask (now (message .entry)) .addressee) (decode (now (image .entry)) .own) ⌝ }
 {

@@ -1,10 +1,3 @@
-pub mod Contexts
-pub mod MergedAt
-pub mod RowsSet
-pub mod Takings
-pub mod Judging
-pub mod Putting
-pub mod Noted
 pub mod Steps
 pub mod OfOne
 pub mod Ready

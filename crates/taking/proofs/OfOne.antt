@@ -29,9 +29,11 @@ use Rattle.arriving.specs.Sent.{points-in, Few, with-arrivals}
 use Rattle.arriving.proofs.Merged.{entered-is}
 use Rattle.noting.specs.Noted.{noted, Crewed}
 use Rattle.merging.specs.Merging.{theirs}
-use Rattle.taking.specs.Taken.{key-in, result, taken, Takable, with-clock}
-use Rattle.taking.proofs.Takings.{carried}
-use Rattle.taking.proofs.Noted.{own-kept, foreign-is}
+use Rattle.weighing.specs.Weighed.{key-in, result, Takable}
+use Rattle.joining.specs.Joined.{with-clock}
+use Rattle.taking.specs.Taken.{taken}
+use Rattle.weighing.proofs.Takings.{carried}
+use Rattle.joining.proofs.Noted.{own-kept, foreign-is}
 
 -- ---- a run of one block
 

@@ -3,11 +3,10 @@ use Prim.Native.Nat.{ℕ, _≤_}
 use mathlib.Core.Path.{_≡_, refl, ap, sym, _∙_, subst}
 use mathlib.Core.Bool.{Bool, true, false}
 use mathlib.Core.List.{List, [], _∷_}
-use native.Mathlib.Omega.{arith}
 use lib.ListN.{length}
 use Rattle.numbers.specs.declared.Counter.{Counter}
 use Rattle.numbers.specs.declared.Key.{Key}
-use Rattle.numbers.specs.Words.{map, every}
+use Rattle.numbers.specs.Words.{map}
 use Rattle.numbers.specs.Numbers.{counter, is-controller}
 use Rattle.numbers.proofs.Tests.{and-left}
 use Rattle.numbers.proofs.Lists.{clause, map-length}
@@ -17,7 +16,7 @@ use Rattle.refusal.specs.declared.Refusal.the-variants.{RowTooFar}
 use Rattle.refusal.specs.Refusal.{verdict-of}
 use Rattle.row.specs.Row.{fits, sound}
 use Rattle.meaning.specs.CrewTable.{holds}
-use Rattle.meaning.specs.Clock.{Clock, row, every-row}
+use Rattle.meaning.specs.Clock.{Clock, every-row}
 use Rattle.meaning.specs.Context.{Context}
 use Rattle.meaning.specs.Object.{Object}
 use Rattle.meaning.specs.State.{Stored, State, local}
@@ -35,37 +34,18 @@ use Rattle.arriving.specs.Sent.{points-in, with-arrivals}
 use Rattle.checking.specs.Judged.{message-judged}
 use Rattle.checking.proofs.Judging.{laid-message}
 use Rattle.checking.proofs.Accepted.{MessageFacts, judged-facts, carried}
-use Rattle.merging.specs.Merging.{theirs, arriving}
-use Rattle.taking.specs.Taken.{takable, key-in, Takable, result, Mergeable, result-judged, taken, left-by}
-use Rattle.taking.proofs.Takings.{ascend, by-crew, local-ascend, local-by-crew, agreed, count}
-use Rattle.taking.proofs.Judging.{same-survivors}
+use Rattle.weighing.specs.Weighed.{takable, key-in, Takable, result}
+use Rattle.joining.specs.Joined.{Mergeable}
+use Rattle.taking.specs.Taken.{result-judged, taken, left-by}
+use Rattle.joining.proofs.May.{may-merge}
 use Rattle.taking.proofs.Steps.{far, passed, settle-refused}
 use Rattle.taking.proofs.OfOne.{result-is, theirs-is, clock-is}
 
 -- ---- what may be merged
 
 module _ (s : State) (G : Good s) (m here there : List ℕ) (T : Takable s m here there) (c : Clock) (ok : verdict-of (result-judged s c (result s m there) true) ≡ Accepted) where
-  abbrev k : Key
-  k = key-in m
-
-  abbrev o : Object
-  o = theirs m there
-
   pub mergeable : Mergeable (local s (key-in m) .versions) m here there
-  mergeable = (
-    local-ascend s G k o (T .5),
-    local-by-crew s G k o (T .5),
-    ascend s G k o (T .5),
-    by-crew s G k o (T .5),
-    agreed s G k o (T .5),
-    omega (
-      arith,
-      passed s c (result s m there) ok .0,
-      count s G k o (T .5),
-      ap length (same-survivors (record { versions = local s k .versions; context = map counter here }) (local s k) o refl),
-      ap (λ (x : Context). length (arriving x (o .versions))) (T .3),
-    ),
-  )
+  mergeable = may-merge s G m here there T (passed s c (result s m there) ok .0)
 
   pub place-for-it : length (put c (s .points) (result s m there)) ≤ most-points
   place-for-it = passed s c (result s m there) ok .1

@@ -7,8 +7,8 @@ use Rattle.meaning.specs.Settle.{put}
 use Rattle.layout.specs.Clocks.{decode-clock}
 use Rattle.layout.specs.Image.{decode}
 use Rattle.store.proofs.Lent.{good-now}
-use Rattle.taking.specs.Taken.{result}
-use Rattle.taking.proofs.Judging.{put-grows}
+use Rattle.weighing.specs.Weighed.{result}
+use Rattle.weighing.proofs.Judging.{put-grows}
 use Rattle.taking.proofs.Steps.{many-versions, many-points, may-be-put}
 use denote.Ref.{now}
 use native.Mathlib.Omega.{arith}

@@ -1,6 +1,5 @@
 -- `taking::put_taken` meets its contract (OfOne, Ready). Assumes nothing.
 use borrow.Author.Needs.{needs}
-use Prim.Native.Nat.{_≤_}
 use mathlib.Core.Path.{_≡_, ap, sym, subst, _∙_}
 use mathlib.Core.Bool.{true}
 use mathlib.Core.List.{List}
@@ -9,14 +8,14 @@ use Rattle.numbers.specs.Words.{ascends?}
 use Rattle.block.proofs.Numbers.{bytes-of}
 use Rattle.meaning.specs.Object.{Object}
 use Rattle.meaning.specs.State.{Stored, stored-before}
-use Rattle.meaning.specs.Settle.{most-points, put}
 use Rattle.layout.specs.Clocks.{decode-clock}
 use Rattle.layout.specs.Image.{decode}
 use Rattle.store.proofs.Lent.{good-now, good-ascends}
 use Rattle.merging.specs.Merging.{theirs}
-use Rattle.taking.specs.Taken.{key-in, result, Mergeable}
-use Rattle.taking.proofs.Takings.{by-crew}
-use Rattle.taking.proofs.Judging.{few-sent}
+use Rattle.weighing.specs.Weighed.{key-in}
+use Rattle.joining.specs.Joined.{Mergeable}
+use Rattle.weighing.proofs.Takings.{by-crew}
+use Rattle.weighing.proofs.Judging.{few-sent}
 use Rattle.taking.proofs.OfOne.{one-few, one-crewed, local-now, points-now, room-now, taken-in}
 use Rattle.taking.proofs.Ready.{mergeable, place-for-it}
 use denote.Ref.{now}

@@ -1,7 +1,7 @@
 -- `taking::take_in_at` meets its contract. Assumes nothing.
 use borrow.Author.Needs.{needs}
 use mathlib.Core.Path.{ap, sym, _∙_}
-use mathlib.Core.List.{List, []}
+use mathlib.Core.List.{[]}
 use Rattle.refusal.specs.Refusal.{Answer, accepted}
 use Rattle.meaning.specs.State.{State}
 use Rattle.layout.specs.Image.{encode, decode}

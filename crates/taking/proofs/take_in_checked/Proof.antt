@@ -1,20 +1,18 @@
 -- `taking::take_in_checked` meets its contract (Ready). Assumes nothing.
 use borrow.Author.Needs.{needs}
-use mathlib.Core.Path.{_≡_, ap, sym, subst, _∙_}
-use mathlib.Core.Bool.{true}
+use mathlib.Core.Path.{ap, sym, _∙_}
 use borrow.Author.Tests.{not-false}
 use Rattle.numbers.proofs.Tests.{not-true}
 use Rattle.block.proofs.Numbers.{bytes-of}
 use Rattle.row.specs.Row.{fits}
 use Rattle.meaning.specs.Clock.{Clock, every-row}
-use Rattle.layout.specs.Clocks.{decode-clock}
 use Rattle.layout.specs.Image.{decode}
 use Rattle.layout.specs.Calls.{After}
 use Rattle.store.proofs.Lent.{good-now, counted, rows-copied}
 use Rattle.arriving.specs.Sent.{points-in, with-arrivals}
 use Rattle.checking.proofs.Judging.{laid-message}
 use Rattle.checking.proofs.Accepted.{judged-facts}
-use Rattle.taking.proofs.Judging.{few-sent}
+use Rattle.weighing.proofs.Judging.{few-sent}
 use Rattle.taking.proofs.OfOne.{one-few}
 use Rattle.taking.proofs.Ready.{row-too-far, all-sound}
 use denote.Ref.{now}

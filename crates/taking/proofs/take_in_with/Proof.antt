@@ -1,16 +1,16 @@
 -- `taking::take_in_with` meets its contract (Steps, Ready). Assumes nothing.
 use borrow.Author.Needs.{needs}
-use mathlib.Core.Path.{_≡_, refl, ap, sym, subst, _∙_}
-use mathlib.Core.List.{List, [], _∷_}
-use Rattle.refusal.specs.declared.Verdict.the-variants.{Accepted}
+use mathlib.Core.Path.{refl, ap, sym, _∙_}
+use mathlib.Core.List.{[], _∷_}
 use Rattle.block.proofs.Numbers.{bytes-of}
 use Rattle.meaning.specs.State.{Stored}
-use Rattle.meaning.specs.Settle.{settled, settle}
+use Rattle.meaning.specs.Settle.{settle}
 use Rattle.layout.specs.Clocks.{decode-clock}
-use Rattle.layout.specs.Image.{encode, decode}
+use Rattle.layout.specs.Image.{decode}
 use Rattle.layout.specs.Calls.{After, afterwards}
 use Rattle.store.proofs.Lent.{good-now}
-use Rattle.taking.specs.Taken.{key-in, result, left-by}
+use Rattle.weighing.specs.Weighed.{key-in, result}
+use Rattle.taking.specs.Taken.{left-by}
 use Rattle.taking.proofs.OfOne.{result-is, clock-left}
 use Rattle.taking.proofs.Steps.{settle-refused, settle-made}
 use Rattle.taking.proofs.Ready.{takable-now}

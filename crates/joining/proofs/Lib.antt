@@ -1,0 +1,5 @@
+pub mod MergedAt
+pub mod RowsSet
+pub mod Putting
+pub mod Noted
+pub mod May
