@@ -1,10 +1,1 @@
-pub mod Fresh
-pub mod Starting
-pub mod Ladder
-pub mod Reading
-pub mod Writing
-pub mod TakingIn
-pub mod Asking
-pub mod Replying
-pub mod StripPass
 pub mod OneAnswer

@@ -4,10 +4,7 @@ use Rattle.refusal.specs.Refusal.{answer-number}
 use borrow.Author.Needs.{needs}
 use Rattle.sqimrutta.proofs.sqimrutta_ask.Statement.{statement}
 use Rattle.sqimrutta.proofs.sqimrutta_ask.Tie as tie
-use Rattle.sqimrutta.proofs.sqimrutta_ask.Reads as reads
-use Rattle.sqimrutta.proofs.sqimrutta_ask.Lts as lts
 use Rattle.refusal.proofs.Verdict.number.Reads as number-reads
-use Rattle.sqimrutta.proofs.ask.Reads as ask-reads
 
 ask-requires : tie.Need-ask-requires
 ask-requires c κs = search needs

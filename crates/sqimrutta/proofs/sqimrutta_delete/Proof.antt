@@ -4,10 +4,7 @@ use Rattle.refusal.specs.Refusal.{answer-number}
 use borrow.Author.Needs.{needs}
 use Rattle.sqimrutta.proofs.sqimrutta_delete.Statement.{statement}
 use Rattle.sqimrutta.proofs.sqimrutta_delete.Tie as tie
-use Rattle.sqimrutta.proofs.sqimrutta_delete.Reads as reads
-use Rattle.sqimrutta.proofs.sqimrutta_delete.Lts as lts
 use Rattle.refusal.proofs.Verdict.number.Reads as number-reads
-use Rattle.sqimrutta.proofs.delete.Reads as delete-reads
 
 delete-requires : tie.Need-delete-requires
 delete-requires c κs = search needs

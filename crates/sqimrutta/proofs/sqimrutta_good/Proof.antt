@@ -4,8 +4,6 @@ use Rattle.numbers.specs.Words.{if_then_else_}
 use borrow.Author.Needs.{needs}
 use Rattle.sqimrutta.proofs.sqimrutta_good.Statement.{statement}
 use Rattle.sqimrutta.proofs.sqimrutta_good.Tie as tie
-use Rattle.sqimrutta.proofs.sqimrutta_good.Reads as reads
-use Rattle.sqimrutta.proofs.sqimrutta_good.Lts as lts
 use Rattle.image.proofs.good.Reads as good-reads
 
 good-requires : tie.Need-good-requires

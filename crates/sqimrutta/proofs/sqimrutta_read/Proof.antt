@@ -4,10 +4,7 @@ use Rattle.refusal.specs.Refusal.{answer-number}
 use borrow.Author.Needs.{needs}
 use Rattle.sqimrutta.proofs.sqimrutta_read.Statement.{statement}
 use Rattle.sqimrutta.proofs.sqimrutta_read.Tie as tie
-use Rattle.sqimrutta.proofs.sqimrutta_read.Reads as reads
-use Rattle.sqimrutta.proofs.sqimrutta_read.Lts as lts
 use Rattle.refusal.proofs.Verdict.number.Reads as number-reads
-use Rattle.sqimrutta.proofs.read.Reads as read-reads
 
 read-requires : tie.Need-read-requires
 read-requires c κs = search needs

@@ -3,10 +3,7 @@ use Rattle.refusal.specs.Refusal.{answer-number}
 use borrow.Author.Needs.{needs}
 use Rattle.sqimrutta.proofs.sqimrutta_start.Statement.{statement}
 use Rattle.sqimrutta.proofs.sqimrutta_start.Tie as tie
-use Rattle.sqimrutta.proofs.sqimrutta_start.Reads as reads
-use Rattle.sqimrutta.proofs.sqimrutta_start.Lts as lts
 use Rattle.refusal.proofs.Verdict.number.Reads as number-reads
-use Rattle.sqimrutta.proofs.start.Reads as start-reads
 
 start-requires : tie.Need-start-requires
 start-requires c κs = search needs

@@ -4,10 +4,7 @@ use Rattle.refusal.specs.Refusal.{answer-number}
 use borrow.Author.Needs.{needs}
 use Rattle.sqimrutta.proofs.sqimrutta_strip_pass.Statement.{statement}
 use Rattle.sqimrutta.proofs.sqimrutta_strip_pass.Tie as tie
-use Rattle.sqimrutta.proofs.sqimrutta_strip_pass.Reads as reads
-use Rattle.sqimrutta.proofs.sqimrutta_strip_pass.Lts as lts
 use Rattle.refusal.proofs.Verdict.number.Reads as number-reads
-use Rattle.sqimrutta.proofs.strip_pass.Reads as strip-pass-reads
 
 strip-pass-requires : tie.Need-strip-pass-requires
 strip-pass-requires c κs = search needs

@@ -4,10 +4,7 @@ use Rattle.refusal.specs.Refusal.{answer-number}
 use borrow.Author.Needs.{needs}
 use Rattle.sqimrutta.proofs.sqimrutta_write.Statement.{statement}
 use Rattle.sqimrutta.proofs.sqimrutta_write.Tie as tie
-use Rattle.sqimrutta.proofs.sqimrutta_write.Reads as reads
-use Rattle.sqimrutta.proofs.sqimrutta_write.Lts as lts
 use Rattle.refusal.proofs.Verdict.number.Reads as number-reads
-use Rattle.sqimrutta.proofs.write.Reads as write-reads
 
 write-requires : tie.Need-write-requires
 write-requires c κs = search needs

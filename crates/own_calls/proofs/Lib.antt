@@ -1,0 +1,3 @@
+pub mod Reading
+pub mod StripPass
+pub mod Writing
