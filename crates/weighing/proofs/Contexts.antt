@@ -8,6 +8,7 @@ use lib.ListN.{length, take, drop}
 use Rattle.numbers.specs.declared.Controller.{Controller}
 use Rattle.numbers.specs.declared.Counter.{Counter}
 use Rattle.numbers.specs.declared.Key.{Key}
+use Rattle.numbers.specs.Words.{ascends?}
 use Rattle.numbers.specs.Numbers.{controller, counter, each}
 use Rattle.numbers.proofs.Controllers.{each-entry}
 use Rattle.block.specs.Fields.{cut, field, upto}
@@ -18,7 +19,7 @@ use Rattle.meaning.specs.CrewTable.{CrewTable}
 use Rattle.meaning.specs.Clock.{Clock}
 use Rattle.meaning.specs.Context.{Context, entry, fill-context}
 use Rattle.meaning.specs.Object.{Object, fill}
-use Rattle.meaning.specs.State.{look-up, local}
+use Rattle.meaning.specs.State.{stored-before, look-up, local}
 use Rattle.layout.specs.PointBlock.{decode-context}
 use Rattle.layout.specs.Clocks.{decode-clock}
 use Rattle.layout.specs.Image.{image-length, decode, goodImage}
@@ -26,7 +27,9 @@ use Rattle.dots.specs.declared.Found.the-variants.{At}
 use Rattle.record.proofs.Reading.{context-field}
 use Rattle.image.specs.Places.{Point-in}
 use Rattle.store.proofs.Lent.{table-part, clock-part}
-use Rattle.store.proofs.Record.{context-of, found-object}
+use Rattle.store.proofs.Record.{context-of}
+use Rattle.arriving.proofs.Arrivals.{object-there}
+use Rattle.image_edits.specs.Edits.{Canonical}
 
 module _ (img : List ℕ) (size : length img ≡ image-length) (k : Key) where
   pub local-is : (stored : List ℕ) → look-up k (decode img .points) .context ≡ decode-context stored → (c : Context) → c ≡ fill-context (cut img 8 8) (k .job) (decode-clock (cut img 16 96)) (decode-context stored) → c ≡ local (decode img) k .context
@@ -37,10 +40,10 @@ module _ (img : List ℕ) (size : length img ≡ image-length) (k : Key) where
 
 -- ---- in the record that was found
 
-module _ (img : List ℕ) (small : Bytes img) (size : length img ≡ image-length) (good : goodImage img ≡ true) (k : Key) (i : ℕ) (at : Point-in (decode img .points) k (At i)) where
+module _ (img : List ℕ) (small : Bytes img) (size : length img ≡ image-length) (canonical : Canonical img) (up : ascends? stored-before (decode img .points) ≡ true) (k : Key) (i : ℕ) (at : Point-in (decode img .points) k (At i)) where
   pub found-context : look-up k (decode img .points) .context ≡ decode-context (take (512 * (3 + i) + 40 - (512 * (3 + i) + 8)) (drop (512 * (3 + i) + 8) img))
   found-context =
-      ap (λ (o : Object). o .context) (found-object img small size good k i at) ∙ context-of lent
+      ap (λ (o : Object). o .context) (object-there img small size canonical up k i at) ∙ context-of lent
       ∙ ap (λ (b : List ℕ). decode-context (cut b 8 32)) (part-is img (512 * (3 + i)) 512)
       ∙ ap decode-context (cut-cut img (512 * (3 + i)) 512 8 32 (omega arith) ∙ sym (part-is img (512 * (3 + i) + 8) 32) ∙ ap (λ (e : ℕ). take (e - (512 * (3 + i) + 8)) (drop (512 * (3 + i) + 8) img)) there)
     where

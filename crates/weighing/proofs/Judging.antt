@@ -1,14 +1,14 @@
 -- Rows 12 and 13 of the table, judged on the lent image. Assumes nothing.
 use Prim.Native.Nat.{ℕ, _+_, _-_, _*_, _≤_, _<_}
 use mathlib.Core.Path.{_≡_, refl, ap, ap₂, sym, _∙_, subst}
-use mathlib.Core.Bool.{Bool, true, false, _||_, not}
+use mathlib.Core.Bool.{Bool, true, false, _&&_, _||_, not}
 use mathlib.Core.List.{List, [], _∷_}
 use native.Mathlib.Omega.{arith}
 use lib.ListN.{length, take, drop, getD, length-append, length-take, length-drop}
 use lib.Dec.{ltb}
 use borrow.Author.Tests.{le-ltb, lt-ltb}
 use Rattle.numbers.specs.declared.Key.{Key}
-use Rattle.numbers.specs.Words.{if_then_else_, keep, map, place}
+use Rattle.numbers.specs.Words.{if_then_else_, keep, map, place, ascends?}
 use Rattle.numbers.specs.Numbers.{counter}
 use Rattle.numbers.specs.Key.{same-key}
 use Rattle.numbers.proofs.Tests.{by-test}
@@ -19,7 +19,7 @@ use Rattle.block.proofs.Numbers.{Bytes, bytes-cut}
 use Rattle.block.proofs.Parts.{part-is, splice-length}
 use Rattle.meaning.specs.Clock.{Clock}
 use Rattle.meaning.specs.Context.{Context, covers}
-use Rattle.meaning.specs.Object.{version-before, Object, no-object, has-dot, fill, strip, survivors, merge, gone}
+use Rattle.meaning.specs.Object.{Version, version-before, Object, no-object, has-dot, fill, strip, survivors, merge, gone}
 use Rattle.meaning.specs.State.{Stored, stored-before, State, look-up, local}
 use Rattle.meaning.specs.Message.{most-versions}
 use Rattle.meaning.specs.Settle.{stripped, without, put}
@@ -34,10 +34,10 @@ use Rattle.store.specs.Restored.{restored}
 use Rattle.store.proofs.Resulting.{put-where-stored, put-where-new, put-nothing}
 use Rattle.store.proofs.Lent.{good-now, good-ascends, good-canonical}
 use Rattle.store.proofs.Stripped.{record-laid}
-use Rattle.store.proofs.Record.{record-none, look-up-none, found-object, lent-long}
-use Rattle.merging.specs.Merging.{theirs, none-here, arriving}
+use Rattle.store.proofs.Record.{record-there, record-none, look-up-none, found-object, lent-long}
+use Rattle.merging.specs.Merging.{theirs, none-here, arriving, agreeing}
 use Rattle.weighing.specs.Weighed.{key-in, Takable, result}
-use Rattle.weighing.proofs.Takings.{count}
+use Rattle.weighing.proofs.Takings.{local-ascend, agreed, count}
 
 -- the local versions are those that are stored
 pub local-versions : (s : State) (k : Key) → local s k .versions ≡ look-up k (s .points) .versions
@@ -139,6 +139,20 @@ module _ (img : List ℕ) (small : Bytes img) (size : length img ≡ image-lengt
         r : Stored
         r = result (decode img) m there
 
+    -- the result there
+    pub merged-found : (c : Clock) (g : Bool) → g ≡ gone (strip c (merge (record { versions = decode-point form-1 (take (512 * (3 + i) + 512 - 512 * (3 + i)) (drop (512 * (3 + i)) img)) .object .versions; context = map counter here }) (theirs m there)))
+        → g ≡ (has-record (key-in m) (decode img .points) && gone (strip c (result (decode img) m there .object)))
+    merged-found c g e =
+        e ∙ ap (λ (x : Object). gone (strip c (merge x o))) (λ j. record { versions = stored-versions j; context = T .3 j })
+        ∙ ap (λ (b : Bool). b && gone (strip c (result (decode img) m there .object))) (sym (record-there (key-in m) (decode img .points) i at))
+
+    -- the record's versions may be merged with the message's
+    pub found-ascend : ascends? version-before (decode-point form-1 (take (512 * (3 + i) + 512 - 512 * (3 + i)) (drop (512 * (3 + i)) img)) .object .versions) ≡ true
+    found-ascend = ap (ascends? version-before) stored-versions ∙ local-ascend (decode img) (good-now img good) k o (T .5)
+
+    pub found-agreed : agreeing (decode-point form-1 (take (512 * (3 + i) + 512 - 512 * (3 + i)) (drop (512 * (3 + i)) img)) .object .versions) (decode-point form-1 m .object .versions) ≡ true
+    found-agreed = ap (λ (vs : List Version). agreeing vs (decode-point form-1 m .object .versions)) stored-versions ∙ agreed (decode img) (good-now img good) k o (T .5)
+
   -- ---- none was
 
   module _ (i : ℕ) (at : Point-in (decode img .points) (key-in m) (Before i)) where
@@ -150,6 +164,9 @@ module _ (img : List ℕ) (small : Bytes img) (size : length img ≡ image-lengt
       where
         versions : local s k .versions ≡ []
         versions = local-versions s k ∙ ap (λ (x : Object). x .versions) (look-up-none k (decode img .points) none)
+
+    pub none-goes : (c : Clock) → false ≡ (has-record (key-in m) (decode img .points) && gone (strip c (result (decode img) m there .object)))
+    none-goes c = ap (λ (b : Bool). b && gone (strip c (result (decode img) m there .object))) (sym none)
 
     pub few-alone : false ≡ ltb most-versions (length (result (decode img) m there .object .versions))
     few-alone = sym (le-ltb 8 (length (merge (local s k) o .versions)) (omega (arith, many, few-arrive, ap length alone)))

@@ -3,25 +3,28 @@
 use dots::Found;
 use numbers::Key;
 ghost use mathlib.Core.Path.{_≡_};
-ghost use mathlib.Core.Bool.{true};
+ghost use mathlib.Core.Bool.{true, _&&_};
 ghost use Prim.Native.Nat.{_<_};
 ghost use lib.ListN.{length};
 ghost use lib.Dec.{ltb};
-ghost use Rattle.numbers.specs.Words.{map};
+ghost use Rattle.numbers.specs.Words.{map, ascends?};
 ghost use Rattle.numbers.specs.Numbers.{counter};
-ghost use Rattle.meaning.specs.State.{local};
+ghost use Rattle.meaning.specs.Object.{strip, gone};
+ghost use Rattle.meaning.specs.State.{stored-before, local};
 ghost use Rattle.meaning.specs.Message.{most-versions};
 ghost use Rattle.meaning.specs.Settle.{put};
 ghost use Rattle.layout.specs.PointBlock.{decode-context};
 ghost use Rattle.layout.specs.Clocks.{decode-clock};
 ghost use Rattle.layout.specs.Image.{image-length, decode, goodImage};
-ghost use Rattle.weighing.specs.Weighed.{Takable, result};
+ghost use Rattle.image_edits.specs.Edits.{Canonical};
+ghost use Rattle.store.specs.HasRecord.{has-record};
+ghost use Rattle.weighing.specs.Weighed.{key-in, Takable, result};
 
 // ---- the two contexts
 
 // The filled local context of the point k.
 pub fn local_context(image: &[u8], count: usize, k: Key, out: &mut [u32])
-    requires { ⌜ (length (now image) ≡ image-length) × (goodImage (now image) ≡ true) × (count ≡ length (decode (now image) .points)) × (length (now out) ≡ 8) ⌝ }
+    requires { ⌜ (length (now image) ≡ image-length) × Canonical (now image) × (count ≡ length (decode (now image) .points)) × (ascends? stored-before (decode (now image) .points) ≡ true) × (length (now out) ≡ 8) ⌝ }
     ensures { λ _. ⌜ (map counter (now (out .exit)) ≡ local (decode (now (image .entry))) k .context) × (length (now (out .exit)) ≡ 8) ⌝ }
 {
     match image::find_point(image, count, k) {
@@ -85,5 +88,26 @@ pub fn needs_place(
     match image::find_point(image, count, record::key_of(m)) {
         Found::At(_) => false,
         Found::Before(_) => !merging::goes_alone(m, here, there, rows),
+    }
+}
+
+// Its record goes: it has one, and nothing needs it any more.
+pub fn record_goes(
+    image: &[u8],
+    count: usize,
+    m: &[u8],
+    here: &[u32],
+    there: &[u32],
+    rows: &[u8],
+) -> bool
+    requires { ⌜ (length (now image) ≡ image-length) × (goodImage (now image) ≡ true) × (count ≡ length (decode (now image) .points)) × Takable (decode (now image)) (now m) (now here) (now there) × (length (now rows) ≡ 96) ⌝ }
+    ensures { λ r. ⌜ r ≡ (has-record (key-in (now (m .entry))) (decode (now (image .entry)) .points) && gone (strip (decode-clock (now (rows .entry))) (result (decode (now (image .entry))) (now (m .entry)) (now (there .entry)) .object))) ⌝ }
+{
+    match image::find_point(image, count, record::key_of(m)) {
+        Found::At(i) => {
+            let at = 512 * (3 + i);
+            merging::goes_with(&image[at..at + 512], m, here, there, rows)
+        }
+        Found::Before(_) => false,
     }
 }

@@ -1,0 +1,136 @@
+-- What an accepted reply has passed, and what is then made of a repair. Assumes nothing.
+use Prim.Native.Nat.{ℕ}
+use mathlib.Core.Path.{_≡_, refl, _∙_}
+use mathlib.Core.Bool.{Bool, true, false, _&&_, _||_, not}
+use mathlib.Core.List.{List}
+use lib.ListN.{drop}
+use Rattle.numbers.specs.Words.{all?, some?, map}
+use Rattle.numbers.specs.Numbers.{same-controller}
+use Rattle.numbers.proofs.Tests.{and-left, and-right, or-false, _∈_}
+use Rattle.numbers.proofs.Controllers.{Crew}
+use Rattle.refusal.specs.declared.Verdict.the-variants.{Accepted, Refused}
+use Rattle.refusal.specs.declared.Refusal.{Refusal}
+use Rattle.refusal.specs.declared.Refusal.the-variants.{WrongCheck, IllFormed, OutOfRange, NotPeer, HistoryLost, DotClash}
+use Rattle.refusal.specs.Refusal.{Answer, refused, accepted, refuse_when_else_, _>>=_, verdict-of}
+use Rattle.meaning.specs.Clock.{row, with-row}
+use Rattle.meaning.specs.Object.{Version, fill}
+use Rattle.meaning.specs.State.{Stored, State}
+use Rattle.meaning.specs.Settle.{settle}
+use Rattle.meaning.specs.Message.{Reply, reply-formed}
+use Rattle.meaning.specs.Exchange.{both-hold, other-peer, ahead-of-us, row-ahead-of-us, clashes, tidied, mended, repair}
+use Rattle.laws.proofs.Answers.{passes, passes-not, then, by-refusal, by-none, accepted-with}
+use Rattle.laws.proofs.Merging.{Carried}
+use Rattle.layout.specs.Messages.{checks-right, decode-reply, laid-out-reply}
+use Rattle.layout.specs.Calls.{with-message}
+use Rattle.noting.specs.Noted.{Crewed}
+use Rattle.weighing.specs.Weighed.{takable}
+use Rattle.hearing.specs.Heard.{peers-judged, reply-judged}
+use Rattle.hearing.proofs.Points.{points-after}
+use Rattle.hearing.proofs.Filled.{reply-sender, crewed-points, apart-dots, filled-takable, filled-carried}
+
+-- what rows 3 to 10 leave of a reply
+pub record ReplyFacts (message : List ℕ) (s : State) : Type 0 where
+  pub checked : checks-right message ≡ true
+  pub laid-out : laid-out-reply message ≡ true
+  pub formed : reply-formed (s .table) (decode-reply message) ≡ true
+  pub held : all? (λ p. both-hold s (decode-reply message .sender) (p .key)) (decode-reply message .points) ≡ true
+  pub peer : other-peer s (decode-reply message .sender) ≡ true
+  pub addressed : same-controller (decode-reply message .addressee) (s .own) ≡ true
+  pub not-ahead : some? (λ p. ahead-of-us s (p .object)) (decode-reply message .points) ≡ false
+  pub row-not-ahead : row-ahead-of-us s (decode-reply message .clock) ≡ false
+  pub no-clash : some? (λ p. some? (clashes s (p .key)) (p .object .versions)) (decode-reply message .points) ≡ false
+
+-- ---- its points
+
+module _ (message : List ℕ) (s : State) (F : ReplyFacts message s) where
+  pub heard-sender : Crew (decode-reply message .sender)
+  heard-sender = reply-sender s (decode-reply message) (F .formed)
+
+  pub heard-crewed : Crewed (drop 512 message)
+  heard-crewed = crewed-points s (decode-reply message) (F .formed) (drop 512 message) (points-after message)
+
+  pub heard-apart : (p q : Stored) (v w : Version) → p ∈ decode-reply message .points → q ∈ decode-reply message .points → v ∈ p .object .versions → w ∈ q .object .versions → v .dot ≡ w .dot → p .key ≡ q .key
+  heard-apart = apart-dots s (decode-reply message) (F .formed)
+
+  module _ (own-crew : Crew (s .own)) (p : Stored) (m : p ∈ decode-reply message .points) where
+    pub heard-takable : takable s (p .key) (fill (s .table) (p .key .job) (decode-reply message .clock) (p .object)) ≡ true
+    heard-takable = filled-takable s (decode-reply message) (F .formed) own-crew (F .held) (F .not-ahead) (F .row-not-ahead) (F .no-clash) p m
+
+    pub heard-carried : Carried s (p .key) (fill (s .table) (p .key .job) (decode-reply message .clock) (p .object))
+    heard-carried = filled-carried s (decode-reply message) (F .formed) own-crew (F .held) (F .not-ahead) (F .row-not-ahead) (F .no-clash) p m
+
+-- ---- an accepted one
+
+module _ (message : List ℕ) (s : State) where
+  abbrev q : Reply
+  q = decode-reply message
+
+  abbrev jobs-held : Bool
+  jobs-held = all? (λ p. both-hold s (q .sender) (p .key)) (q .points)
+
+  abbrev to-us : Bool
+  to-us = other-peer s (q .sender) && same-controller (q .addressee) (s .own)
+
+  abbrev lost : Bool
+  lost = some? (λ p. ahead-of-us s (p .object)) (q .points) || row-ahead-of-us s (q .clock)
+
+  abbrev clashing : Bool
+  clashing = some? (λ p. some? (clashes s (p .key)) (p .object .versions)) (q .points)
+
+  pub judged-facts : verdict-of (reply-judged message s true) ≡ Accepted → ReplyFacts message s
+  unfolding reply-judged with-message peers-judged
+  judged-facts e =
+      let a = accepted-with (reply-judged message s true) e .1 in
+      let one = passes-not WrongCheck (checks-right message) _ a in
+      let two = passes-not IllFormed (laid-out-reply message) _ (one .1) in
+      let three = passes-not IllFormed (reply-formed (s .table) q) _ (two .1) in
+      let four = passes-not OutOfRange jobs-held _ (three .1) in
+      let five = passes-not NotPeer to-us _ (four .1) in
+      let six = passes HistoryLost lost _ (five .1) in
+      let seven = passes DotClash clashing _ (six .1) in
+      let behind = or-false (some? (λ p. ahead-of-us s (p .object)) (q .points)) (row-ahead-of-us s (q .clock)) (six .0) in
+      record {
+        checked = one .0;
+        laid-out = two .0;
+        formed = three .0;
+        held = four .0;
+        peer = and-left (other-peer s (q .sender)) (same-controller (q .addressee) (s .own)) (five .0);
+        addressed = and-right (other-peer s (q .sender)) (same-controller (q .addressee) (s .own)) (five .0);
+        not-ahead = behind .0;
+        row-not-ahead = behind .1;
+        no-clash = seven .0;
+      }
+
+  -- ---- whatever is made of the state
+
+  same-rows : {A B : Type 0} (c l f h p a d : Bool) (x : Answer A) (g : A → Answer B)
+      → (refuse WrongCheck when not c else refuse IllFormed when not l else
+      ((refuse IllFormed when not f else refuse OutOfRange when not h else refuse NotPeer when not p else refuse HistoryLost when a else refuse DotClash when d else x) >>= g))
+      ≡ then (refuse WrongCheck when not c else refuse IllFormed when not l else
+      refuse IllFormed when not f else refuse OutOfRange when not h else refuse NotPeer when not p else refuse HistoryLost when a else refuse DotClash when d else accepted true) (x >>= g)
+  unfolding refuse_when_else_ then
+  same-rows false l f h p a d x g = refl
+  same-rows true false f h p a d x g = refl
+  same-rows true true false h p a d x g = refl
+  same-rows true true true false p a d x g = refl
+  same-rows true true true true false a d x g = refl
+  same-rows true true true true true true d x g = refl
+  same-rows true true true true true false true x g = refl
+  same-rows true true true true true false false x g = refl
+
+  abbrev result : Answer State
+  result = settle s (with-row (s .clock) (q .sender) (row (q .clock) (q .sender))) (map (mended s q) (q .points)) >>= λ after. accepted (tidied after q)
+
+  module _ {B : Type 0} (g : State → Answer B) where
+    any-state : with-message message (laid-out-reply message) (repair s q >>= g) ≡ then (reply-judged message s true) (result >>= g)
+    unfolding reply-judged with-message peers-judged repair
+    any-state = same-rows (checks-right message) (laid-out-reply message) (reply-formed (s .table) q) jobs-held to-us lost clashing result g
+
+    pub judged-refused : (r : Refusal) → verdict-of (reply-judged message s true) ≡ Refused r → with-message message (laid-out-reply message) (repair s (decode-reply message) >>= g) ≡ refused r
+    judged-refused r e = any-state ∙ by-refusal (result >>= g) (reply-judged message s true) r e
+
+    pub judged-accepted : verdict-of (reply-judged message s true) ≡ Accepted
+        → with-message message (laid-out-reply message) (repair s (decode-reply message) >>= g)
+        ≡ ((settle s (with-row (s .clock) (decode-reply message .sender) (row (decode-reply message .clock) (decode-reply message .sender))) (map (mended s (decode-reply message)) (decode-reply message .points))
+        >>= λ after. accepted (tidied after (decode-reply message))) >>= g)
+    judged-accepted e = any-state ∙ by-none (result >>= g) (reply-judged message s true) e

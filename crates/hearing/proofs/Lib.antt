@@ -1,0 +1,4 @@
+pub mod Points
+pub mod Judging
+pub mod Filled
+pub mod Accepted

@@ -1,0 +1,4 @@
+pub mod Points
+pub mod Loops
+pub mod LaidOut
+pub mod Formed

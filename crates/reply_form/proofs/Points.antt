@@ -1,0 +1,61 @@
+-- A reply's bytes: the head's block, and the points in the blocks that follow it. Assumes nothing.
+use Prim.Native.Nat.{ℕ, _+_, _*_, _-_, _/_, _%_, _≤_}
+use mathlib.Core.Path.{_≡_, ap, _∙_}
+use mathlib.Core.Bool.{true, _&&_}
+use mathlib.Core.List.{List}
+use native.Mathlib.Omega.{arith}
+use lib.ListN.{length, take, drop, length-drop}
+use lib.Seq.{take-all, drop-drop}
+use lib.Dec.{leb, eqb}
+use borrow.Author.Tests.{leb-true, eqb-true}
+use Rattle.numbers.proofs.Tests.{and-left, and-right}
+use Rattle.block.specs.Fields.{upto}
+use Rattle.block.specs.Block.{block-at}
+use Rattle.block.proofs.Arrays.{upto-same}
+use Rattle.layout.specs.PointBlock.{form-1, decode-stored}
+use Rattle.layout.specs.Messages.{decode-reply}
+use Rattle.layout.specs.Calls.{reply-room, whole-reply}
+use Rattle.arriving.specs.Sent.{points-in}
+use Rattle.reply_form.specs.Parts.{point-of}
+
+-- the blocks after the first
+pub block-is : (run : List ℕ) (i : ℕ) → block-at (drop 512 run) i ≡ block-at run (1 + i)
+unfolding block-at
+block-is run i = ap (take 512) (drop-drop (512 * i) 512 run ∙ ap (λ (o : ℕ). drop o run) there)
+  where
+    there : 512 + 512 * i ≡ 512 * (1 + i)
+    there = omega arith
+
+-- all but the first block, as they are lent
+pub rest-lent : (run : List ℕ) → take (length run - 512) (drop 512 run) ≡ drop 512 run
+rest-lent run = take-all (length run - 512) (drop 512 run) (omega (arith, length-drop 512 run))
+
+module _ (reply : List ℕ) (whole : whole-reply reply ≡ true) where
+  pub whole-blocks : length reply % 512 ≡ 0
+  unfolding whole-reply
+  whole-blocks =
+      eqb-true (length reply % 512) 0
+      (and-left (eqb (length reply % 512) 0) (leb 512 (length reply)) (and-left (eqb (length reply % 512) 0 && leb 512 (length reply)) (leb (length reply) reply-room) whole))
+
+  pub at-least : 512 ≤ length reply
+  unfolding whole-reply
+  at-least =
+      leb-true 512 (length reply)
+      (and-right (eqb (length reply % 512) 0) (leb 512 (length reply)) (and-left (eqb (length reply % 512) 0 && leb 512 (length reply)) (leb (length reply) reply-room) whole))
+
+  pub at-most : length reply ≤ reply-room
+  unfolding whole-reply
+  at-most = leb-true (length reply) reply-room (and-right (eqb (length reply % 512) 0 && leb 512 (length reply)) (leb (length reply) reply-room) whole)
+
+  -- as many points as there are blocks behind the head, and nothing behind the last
+  pub count-is : length (drop 512 reply) / 512 ≡ length reply / 512 - 1
+  count-is = omega (arith, length-drop 512 reply, at-least)
+
+  pub rest-size : length (drop 512 reply) ≡ 512 * (length (drop 512 reply) / 512)
+  rest-size = omega (arith, length-drop 512 reply, whole-blocks, at-least)
+
+  pub points-are : points-in (drop 512 reply) ≡ decode-reply reply .points
+  unfolding decode-reply
+  points-are =
+      ap (λ (n : ℕ). upto n (point-of (drop 512 reply))) count-is
+      ∙ upto-same (length reply / 512 - 1) (point-of (drop 512 reply)) (λ i. point-of reply (1 + i)) (λ i l. ap (decode-stored form-1) (block-is reply i))

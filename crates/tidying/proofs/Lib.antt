@@ -1,0 +1,5 @@
+pub mod Marks
+pub mod Raising
+pub mod Known
+pub mod Dropping
+pub mod Tidied
