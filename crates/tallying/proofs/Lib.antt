@@ -1,1 +1,3 @@
 pub mod OfPoint
+pub mod Tally
+pub mod Judged

@@ -40,16 +40,16 @@ mark b = if b then 1 else 0
 abbrev pub Weighed : State → Clock → Stored → Bool → Bool → Bool → Type 0
 Weighed s c r many coming going = (many ≡ too-many r) × (coming ≡ comes c (s .points) r) × (going ≡ goes-away c (s .points) r)
 
--- and of all: whether one has too many versions, how many come and how many go; the marks are 1 for those that come
-abbrev pub AllWeighed : State → Clock → List Stored → Bool → ℕ → ℕ → List ℕ → Type 0
-AllWeighed s c rs many coming going marks =
+-- and of all n: whether one has too many versions, how many come and how many go; the first n marks are 1 for those that come
+abbrev pub AllWeighed : State → Clock → List Stored → ℕ → Bool → ℕ → ℕ → List ℕ → Type 0
+AllWeighed s c rs n many coming going marks =
     (many ≡ some? too-many rs) × (coming ≡ length (keep (comes c (s .points)) rs)) × (going ≡ length (keep (goes-away c (s .points)) rs))
-    × (take (length rs) marks ≡ map (λ r. mark (comes c (s .points) r)) rs)
+    × (take n marks ≡ map (λ r. mark (comes c (s .points) r)) rs)
 
 -- the rows 11 to 13 of the table, "judged on the step's result", and a where none applies: what `settle` asks
 unfoldable pub results-judged : {A : Type 0} → State → Clock → List Stored → A → Answer A
 results-judged s clock rs a =
     refuse RowTooFar when not (every-row fits clock) else
-    refuse TooManyVersions when some? (λ r. ltb most-versions (length (r .object .versions))) rs else
+    refuse TooManyVersions when some? too-many rs else
     refuse TooManyPoints when ltb most-points (length (fold (put clock) (s .points) rs)) else
     accepted a

@@ -1,14 +1,22 @@
 // The points of a reply, judged on the lent image: rows 12 and 13 of the table. `points` are the reply's blocks behind its head, `clock`
 // the sender's rows, with which the reply's objects are filled, and `rows` those that the step will leave.
+use refusal::Refusal;
+use refusal::Verdict;
 ghost use mathlib.Core.Path.{_≡_};
 ghost use mathlib.Core.Bool.{true};
-ghost use Prim.Native.Nat.{_≤_, _<_, _/_};
-ghost use lib.ListN.{length};
+ghost use Prim.Native.Nat.{_≤_, _/_};
+ghost use lib.ListN.{length, take};
+ghost use Rattle.numbers.specs.Words.{map, ascends?};
+ghost use Rattle.refusal.specs.Refusal.{verdict-of};
+ghost use Rattle.row.specs.Row.{fits};
+ghost use Rattle.meaning.specs.Clock.{every-row};
+ghost use Rattle.meaning.specs.State.{stored-before};
 ghost use Rattle.layout.specs.PointBlock.{form-1, decode-stored};
 ghost use Rattle.layout.specs.Clocks.{decode-clock};
 ghost use Rattle.layout.specs.Image.{image-length, decode, goodImage};
+ghost use Rattle.placing.specs.Placed.{comes};
 ghost use Rattle.mending.specs.Mended.{mend, results};
-ghost use Rattle.tallying.specs.Tallied.{Ready, AllReady, Weighed, AllWeighed};
+ghost use Rattle.tallying.specs.Tallied.{mark, Ready, AllReady, results-judged, Weighed, AllWeighed};
 
 // ---- one point
 
@@ -61,6 +69,16 @@ struct Weights {
     going: usize,
 }
 
+// 1 for yes, 0 for no.
+fn as_mark(yes: bool) -> u8
+    ensures { λ r. ⌜ r ≡ mark yes ⌝ }
+{
+    if yes {
+        return 1;
+    }
+    0
+}
+
 // The marks say which points come to a record: 1 where one does, 0 where none does. It is asked before anything is merged, since a point whose record
 // has gone looks then as if it had never had one.
 fn weigh_all(
@@ -73,7 +91,7 @@ fn weigh_all(
 ) -> Weights
     requires { ⌜ (length (now image) ≡ image-length) × (goodImage (now image) ≡ true) × (count ≡ length (decode (now image) .points)) × (length (now clock) ≡ 96) × AllReady (decode (now image)) (decode-clock (now clock)) (now points) × (length (now rows) ≡ 96)
         × (length (now points) / 512 ≤ length (now marks)) × (length (now marks) ≡ 120) ⌝ }
-    ensures { λ r. ⌜ AllWeighed (decode (now (image .entry))) (decode-clock (now (rows .entry))) (results (decode (now (image .entry))) (decode-clock (now (clock .entry))) (now (points .entry))) (r .many) (r .coming) (r .going) (now (marks .exit))
+    ensures { λ r. ⌜ AllWeighed (decode (now (image .entry))) (decode-clock (now (rows .entry))) (results (decode (now (image .entry))) (decode-clock (now (clock .entry))) (now (points .entry))) (length (now (points .entry)) / 512) (r .many) (r .coming) (r .going) (now (marks .exit))
         × (length (now (marks .exit)) ≡ 120) ⌝ }
 {
     let n = points.len() / 512;
@@ -84,9 +102,11 @@ fn weigh_all(
     while i < n {
         let w = weigh_point(image, count, &points[512 * i..512 * i + 512], clock, rows);
         many = many | w.many;
-        marks[i] = w.comes as u8;
-        coming += w.comes as usize;
-        going += w.goes as usize;
+        let comes = as_mark(w.comes);
+        let goes = as_mark(w.goes);
+        marks[i] = comes;
+        coming += comes as usize;
+        going += goes as usize;
         i += 1;
     }
     Weights {
@@ -94,4 +114,33 @@ fn weigh_all(
         coming: coming,
         going: going,
     }
+}
+
+// Row 12 first, then 13: the records there are, those that come and less those that go, are more than 64.
+pub fn judge_results(
+    image: &[u8],
+    count: usize,
+    points: &[u8],
+    clock: &[u8],
+    rows: &[u8],
+    marks: &mut [u8],
+) -> Verdict
+    requires { ⌜ (length (now image) ≡ image-length) × (goodImage (now image) ≡ true) × (count ≡ length (decode (now image) .points)) × (length (now clock) ≡ 96) × AllReady (decode (now image)) (decode-clock (now clock)) (now points) × (length (now rows) ≡ 96)
+        × (length (now points) / 512 ≤ length (now marks)) × (length (now marks) ≡ 120)
+        × (ascends? stored-before (results (decode (now image)) (decode-clock (now clock)) (now points)) ≡ true) × (every-row fits (decode-clock (now rows)) ≡ true) ⌝ }
+    ensures { λ r. ⌜ (r ≡ verdict-of (results-judged (decode (now (image .entry))) (decode-clock (now (rows .entry))) (results (decode (now (image .entry))) (decode-clock (now (clock .entry))) (now (points .entry))) true))
+        × (take (length (now (points .entry)) / 512) (now (marks .exit)) ≡ map (λ q. mark (comes (decode-clock (now (rows .entry))) (decode (now (image .entry)) .points) q)) (results (decode (now (image .entry))) (decode-clock (now (clock .entry))) (now (points .entry))))
+        × (length (now (marks .exit)) ≡ 120) ⌝ }
+{
+    let w = weigh_all(image, count, points, clock, rows, marks);
+    let many = w.many;
+    let coming = w.coming;
+    let going = w.going;
+    if many {
+        return Verdict::Refused(Refusal::TooManyVersions);
+    }
+    if 64 + going < count + coming {
+        return Verdict::Refused(Refusal::TooManyPoints);
+    }
+    Verdict::Accepted
 }
