@@ -1,53 +1,44 @@
 -- What the results of a take in or a repair bring to the clock and to the lists: the versions that arrive, and no other. Assumes nothing.
-use Prim.Native.Nat.{ℕ, _≤_, _<_}
+use Prim.Native.Nat.{_≤_, _<_}
 use mathlib.Core.Path.{_≡_, refl, ap, ap₂, sym, _∙_, subst}
 use mathlib.Core.Logic.{_⊎_, inl, inr, ⊎-elim, ⊎-map}
-use mathlib.Core.Bool.{Bool, true, false, _&&_, _||_, not}
-use mathlib.Core.List.{List, [], _∷_}
+use mathlib.Core.Bool.{true, false, _&&_, _||_, not}
+use mathlib.Core.List.{List}
 use native.Mathlib.Omega.{arith}
-use lib.ListN.{length}
-use lib.Dec.{leb, ltb}
+use lib.Dec.{ltb}
 use borrow.Author.Tests.{ltb-true, lt-ltb, not-false, not-true, eq-eqb}
 use Rattle.numbers.specs.declared.Controller.{Controller}
 use Rattle.numbers.specs.declared.Counter.{Counter}
 use Rattle.numbers.specs.declared.Dot.{Dot}
 use Rattle.numbers.specs.declared.Key.{Key}
-use Rattle.numbers.specs.Words.{some?, keep, map, concat-map, fold}
-use Rattle.numbers.specs.Numbers.{same-controller, is-counter, each, Crew}
+use Rattle.numbers.specs.Words.{some?, keep, map, fold}
+use Rattle.numbers.specs.Numbers.{same-controller, each, Crew}
 use Rattle.numbers.specs.Dot.{same-dot}
 use Rattle.numbers.specs.Key.{same-key}
-use Rattle.numbers.proofs.Tests.{by-test, never, and-left, and-right, and-both, and-false, or-cases, or-inr, _∈_}
+use Rattle.numbers.proofs.Tests.{by-test, and-left, and-right, and-both, and-false, or-cases, or-inr, _∈_}
 use Rattle.numbers.proofs.Lists.{in-keep, keep-in, in-map, map-in, in-concat-map, concat-map-in, none-in}
 use Rattle.numbers.proofs.Controllers.{same-controllers}
 use Rattle.numbers.proofs.Dots.{dot-itself}
-use Rattle.block.proofs.Same.{of-same}
-use Rattle.row.specs.declared.Row.{Row}
 use Rattle.row.specs.Row.{has, add}
-use Rattle.row.proofs.Members.{Clear, row-determined}
+use Rattle.row.proofs.Members.{row-determined}
 use Rattle.row.proofs.Adding.{add-all, add-all-has, add-all-clear, Positive}
 use Rattle.row.proofs.Highest.{counter-positive, sound-clear}
 use Rattle.meaning.specs.Clock.{Clock, row, in-clock}
 use Rattle.meaning.specs.Context.{entry, covers}
-use Rattle.meaning.specs.Object.{Contents, value, deleted, same-contents, Version, Object, has-dot, survivors, merge}
+use Rattle.meaning.specs.Object.{Contents, same-contents, Version, Object, has-dot, merge}
 use Rattle.meaning.specs.State.{Stored, Listed, State, dots-of, local}
 use Rattle.meaning.specs.Settle.{entered}
 use Rattle.meaning.specs.Exchange.{clashes}
-use Rattle.laws.proofs.ContextLaws.{covers-le, le-covers, not-covers-lt}
-use Rattle.laws.proofs.MergeLaws.{has-dot-of, in-survivors, survivors-in, in-merge, Agreeing, merge-in, WellFormed, agrees-with-itself}
+use Rattle.laws.proofs.ContextLaws.{covers-le, not-covers-lt}
+use Rattle.laws.proofs.MergeLaws.{has-dot-of, in-survivors, survivors-in, in-merge, Agreeing, merge-in, agrees-with-itself}
 use Rattle.laws.proofs.Facts.{in-dots, dots-in}
 use Rattle.laws.proofs.Goodness.{Good}
 use Rattle.laws.proofs.Entering.{row-each, counts, entered-row, entered-eight, in-counts, counts-in, same-clocks}
-use Rattle.laws.proofs.Local.{ObjectFacts, LocalFacts, local-facts}
+use Rattle.laws.proofs.Local.{LocalFacts, local-facts}
 use Rattle.laws.proofs.Settling.{Results}
 use Rattle.laws.proofs.Merging.{Carried, Clocked, no-clash, well-formed, merged-fit}
 use Rattle.arriving.specs.Sent.{arrives, arriving, arriving-with, with-arrivals}
-
--- the same contents
-pub contents-same : (a b : Contents) → same-contents a b ≡ true → a ≡ b
-contents-same (value v) (value w) t = ap value (of-same v w t)
-contents-same (value v) deleted t = never t refl
-contents-same deleted (value w) t = never t refl
-contents-same deleted deleted t = refl
+use Rattle.merging.proofs.Merged.{contents-same}
 
 -- a message's version that has the dot of a stored one is that one
 pub stored-same : (s : State) (k : Key) (v : Version) → clashes s k v ≡ false → (p : Stored) (w : Version) → p ∈ s .points → w ∈ p .object .versions → v .dot ≡ w .dot → v ≡ w

@@ -9,20 +9,15 @@ use Rattle.numbers.specs.declared.Key.{Key}
 use Rattle.numbers.specs.Words.{some?, same-list}
 use Rattle.numbers.specs.Dot.{same-dot}
 use Rattle.numbers.specs.Key.{same-key}
-use Rattle.numbers.proofs.Tests.{never, same-test}
+use Rattle.numbers.proofs.Tests.{same-test}
 use Rattle.numbers.proofs.Dots.{same-dots}
 use Rattle.block.proofs.Same.{same-itself, same-of, of-same}
 use Rattle.meaning.specs.Object.{Contents, value, deleted, same-contents, Version}
 use Rattle.layout.specs.PointBlock.{form-1, encode-slot, decode-slot, decode-point, decode-stored}
 use Rattle.checking.specs.Points.{versions-clash, record-clashes}
+use Rattle.merging.proofs.Merged.{contents-same}
 
 -- ---- what two slots say
-
-contents-same : (a b : Contents) → same-contents a b ≡ true → a ≡ b
-contents-same (value v) (value w) t = ap value (of-same v w t)
-contents-same (value v) deleted t = never t refl
-contents-same deleted (value w) t = never t refl
-contents-same deleted deleted t = refl
 
 contents-itself : (a : Contents) → same-contents a a ≡ true
 contents-itself (value v) = same-itself v

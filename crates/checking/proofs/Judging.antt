@@ -2,14 +2,13 @@
 use Prim.Native.Nat.{ℕ}
 use mathlib.Core.Path.{_≡_, refl, ap, ap₂, sym, _∙_}
 use mathlib.Core.Bool.{Bool, true, false, _&&_, not}
-use mathlib.Core.List.{List, [], _∷_, append-nil}
+use mathlib.Core.List.{List, [], _∷_}
 use native.Mathlib.Omega.{arith}
 use lib.ListN.{length}
 use borrow.Author.Tests.{not-true, not-false}
 use Rattle.numbers.specs.declared.Controller.{Controller}
-use Rattle.numbers.specs.Words.{all?, some?, same-list}
+use Rattle.numbers.specs.Words.{some?, same-list}
 use Rattle.numbers.specs.Numbers.{controller, is-controller, Crew}
-use Rattle.numbers.proofs.Tests.{and-one}
 use Rattle.numbers.proofs.Lists.{clause}
 use Rattle.numbers.proofs.Controllers.{crew-is}
 use Rattle.refusal.specs.declared.Verdict.{Verdict}
@@ -18,7 +17,6 @@ use Rattle.refusal.specs.declared.Refusal.the-variants.{WrongCheck, IllFormed, 
 use Rattle.refusal.specs.Refusal.{refuse_when_else_, verdict-of}
 use Rattle.row.specs.declared.Row.{Row}
 use Rattle.block.specs.Fields.{cut, field}
-use Rattle.block.specs.Check.{sealed}
 use Rattle.block.specs.Block.{Laid}
 use Rattle.block.proofs.Numbers.{Bytes}
 use Rattle.block.proofs.Same.{of-same}
@@ -33,7 +31,6 @@ use Rattle.layout.specs.Clocks.{decode-clock}
 use Rattle.layout.specs.Image.{image-length, decode-head, decode}
 use Rattle.layout.specs.Messages.{checks-right, encode-outgoing, decode-outgoing, laid-out-outgoing}
 use Rattle.layout.specs.Calls.{with-message}
-use Rattle.layout.proofs.MessagesBack.{blocks-cons, no-blocks}
 use Rattle.layout.proofs.Decoded.{point-decoded}
 use Rattle.record_edits.specs.Written.{lay-point, point-block}
 use Rattle.record_edits.proofs.Edits.{says-so}
@@ -43,11 +40,6 @@ use Rattle.checking.specs.Judged.{outgoing-judged, message-judged}
 use Rattle.checking.proofs.Ahead.{above-is}
 
 -- ---- the message's bytes
-
--- the check of a message of one block
-pub one-check : (b : List ℕ) → length b ≡ 512 → checks-right b ≡ sealed b
-unfolding checks-right
-one-check b size = ap (λ (l : List ℕ). checks-right l) (sym (append-nil b)) ∙ ap (all? sealed) (blocks-cons b [] size) ∙ ap (λ (t : Bool). sealed b && t) no-blocks ∙ and-one (sealed b)
 
 pub laid-out-is : (m : List ℕ) (r : Bool) → r ≡ same-list (encode-point form-1 4 0 (decode-point form-1 m)) m → laid-out-outgoing m ≡ r
 unfolding laid-out-outgoing encode-outgoing decode-outgoing

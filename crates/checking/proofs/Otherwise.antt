@@ -1,11 +1,10 @@
 -- A message's versions against all records and both lists: the tests are turned round, and stand for refusal 10. Assumes nothing.
-use Prim.Native.Nat.{ℕ, _+_, _*_, _-_, _≤_}
+use Prim.Native.Nat.{ℕ, _+_, _*_, _-_}
 use mathlib.Core.Path.{_≡_, refl, ap, ap₂, sym, _∙_, subst}
 use mathlib.Core.Logic.{⊎-elim}
 use mathlib.Core.Bool.{Bool, true, false, _&&_, _||_, not}
 use mathlib.Core.List.{List, [], _∷_, _++_, List·Memᴰ·append-cases}
-use native.Mathlib.Omega.{arith}
-use lib.ListN.{length, take, drop}
+use lib.ListN.{take, drop}
 use borrow.Author.Tests.{not-true, not-false}
 use Rattle.numbers.specs.declared.Dot.{Dot}
 use Rattle.numbers.specs.declared.Key.{Key}
@@ -15,22 +14,16 @@ use Rattle.numbers.specs.Key.{same-key}
 use Rattle.numbers.proofs.Tests.{by-test, never, same-test, and-left, and-right, and-both, and-false, or-cases, or-inl, or-inr, _∈_}
 use Rattle.numbers.proofs.Lists.{in-left, in-right, some-in, in-some, none-in, all-in, in-all}
 use Rattle.numbers.proofs.Dots.{same-dots, dot-itself, same-keys, key-itself}
-use Rattle.block.specs.Fields.{cut, field}
-use Rattle.block.specs.Block.{block-at, Laid}
-use Rattle.block.proofs.Numbers.{Bytes, bytes-cut}
-use Rattle.block.proofs.Parts.{length-cut, part-is}
+use Rattle.block.specs.Fields.{cut}
 use Rattle.meaning.specs.Object.{Version}
 use Rattle.meaning.specs.State.{Stored, Listed, listed-before, State, listed}
 use Rattle.meaning.specs.Exchange.{clashes}
 use Rattle.layout.specs.PointBlock.{form-1, decode-point, decode-stored}
-use Rattle.layout.specs.Image.{image-length, decode-dots, decode, goodImage}
-use Rattle.dots.specs.DotsBlock.{lay-dots, dots-block}
-use Rattle.dots.proofs.Edits.{few-dots, count-is}
+use Rattle.layout.specs.Image.{decode-dots, decode, goodImage}
 use Rattle.image.specs.Apart.{point-at, listed-for}
 use Rattle.image.proofs.Loops.{block-part}
-use Rattle.image_edits.specs.Edits.{Canonical}
-use Rattle.image_edits.proofs.Lifting.{list-part-laid}
 use Rattle.store.proofs.Lent.{good-now}
+use Rattle.store.proofs.ListsLent.{own-list, foreign-list}
 use Rattle.checking.specs.Points.{versions-clash, record-clashes, list-clashes}
 
 -- ---- one of a list, and one of another
@@ -63,22 +56,6 @@ pub record-lent : (img : List ℕ) (i : ℕ) (k : Key) (vs : List Version) (r t 
 record-lent img i k vs r t e q = sym (ap (λ (b : List ℕ). some? (record-clashes k (decode-stored form-1 b)) vs) (block-part img (3 + i))) ∙ sym e ∙ q
 
 -- ---- the lists as they are lent
-
-pub own-list : (img : List ℕ) → decode-dots (cut img 512 512) ≡ decode img .own-dots
-unfolding decode block-at
-own-list img = refl
-
-pub foreign-list : (img : List ℕ) → decode-dots (cut img 1024 512) ≡ decode img .foreign-dots
-unfolding decode block-at
-foreign-list img = refl
-
-module _ (img : List ℕ) (small : Bytes img) (size : length img ≡ image-length) (canonical : Canonical img) where
-  pub list-few : (k : ℕ) → 1 ≤ k → k ≤ 2 → field (cut img (512 * k) 512) 4 2 ≤ 60
-  list-few k l h =
-      let laid : Laid lay-dots dots-block (cut img (512 * k) 512) = subst (Laid lay-dots dots-block) (part-is img (512 * k) 512) (list-part-laid img small size canonical k l h) in
-      let long : length (cut img (512 * k) 512) ≡ 512 = length-cut img (512 * k) 512 (omega arith) in
-      let bytes : Bytes (cut img (512 * k) 512) = bytes-cut img (512 * k) 512 small in
-      omega (arith, count-is (cut img (512 * k) 512) bytes long laid, few-dots (cut img (512 * k) 512) bytes long laid)
 
 module _ (img : List ℕ) (good : goodImage img ≡ true) where
   pub own-ascends : ascends? listed-before (decode-dots (cut img 512 512)) ≡ true

@@ -184,11 +184,11 @@ module _ (s : State) (r : Reply) (G : Good s) (formed : reply-formed (s .table) 
   unfolding reply-formed
   test i = clause tests formed i
 
-  sender-crew : Crew (r .sender)
+  pub sender-crew : Crew (r .sender)
   sender-crew = crew-is (r .sender) (test 0)
 
   -- the sender is another peer
-  other : same-controller (r .sender) (s .own) ≡ false
+  pub other : same-controller (r .sender) (s .own) ≡ false
   unfolding other-peer
   other =
       not-true (same-controller (r .sender) (s .own))
@@ -229,7 +229,7 @@ module _ (s : State) (r : Reply) (G : Good s) (formed : reply-formed (s .table) 
   united-other : (n : Controller) → Crew n → same-controller n (r .sender) ≡ false → row united n ≡ row (s .clock) n
   united-other n c f = united-row (s .clock) (r .sender) (row (r .clock) (r .sender)) n c ∙ rw f
 
-  united-clock : Clocked s united
+  pub united-clock : Clocked s (with-row (s .clock) (r .sender) (row (r .clock) (r .sender)))
   united-clock = record {
     eight = unfold with-row in refl;
     rows = λ n c. united-is n c (λ x. sound x ≡ true) (unite-sound (row (s .clock) n) (row (r .clock) (r .sender)) (G .row-sound n c .1) (row-sound (r .sender) sender-crew)) (G .row-sound n c .1);
@@ -244,7 +244,7 @@ module _ (s : State) (r : Reply) (G : Good s) (formed : reply-formed (s .table) 
         ∙ G .rows-peers n c f;
   }
 
-  carried : (p : Stored) → p ∈ r .points → Carried s (p .key) (fill (s .table) (p .key .job) (r .clock) (p .object))
+  pub carried : (p : Stored) → p ∈ r .points → Carried s (p .key) (fill (s .table) (p .key .job) (r .clock) (p .object))
   carried p m =
       let P = point-facts (s .table) (p .key) (p .object) (all-in (λ q. point-formed (s .table) (q .key) (q .object)) (r .points) (test 3) m) in
       let A = not-ahead s (p .object) (none-in (λ q. ahead-of-us s (q .object)) (r .points) (or-false (some? (λ q. ahead-of-us s (q .object)) (r .points)) (row-ahead-of-us s (r .clock)) ahead .0) m) in
@@ -263,19 +263,23 @@ module _ (s : State) (r : Reply) (G : Good s) (formed : reply-formed (s .table) 
         free = λ v h. none-in (clashes s (p .key)) (p .object .versions) (none-in (λ q. some? (clashes s (q .key)) (q .object .versions)) (r .points) clash m) h;
       })
 
-  agree : (p q : Stored) (v w : Version) → p ∈ r .points → q ∈ r .points → v ∈ p .object .versions → w ∈ q .object .versions → v .dot ≡ w .dot → p .key ≡ q .key
+  pub agree : (p q : Stored) (v w : Version) → p ∈ r .points → q ∈ r .points → v ∈ p .object .versions → w ∈ q .object .versions → v .dot ≡ w .dot → p .key ≡ q .key
   agree p q v w mp mq mv mw e =
       agree-at (dots-of (r .points)) (dots-of (r .points)) (test 6) (record { dot = v .dot; key = p .key }) (record { dot = w .dot; key = q .key }) (dots-in (r .points) mp mv) (dots-in (r .points) mq mw) e
 
-  mended-good : (x : State) → settle s united (map (mended s r) (r .points)) ≡ accepted x → Good (tidied x r)
+  -- what is stored is good before the watermark is raised
+  pub stored-good : Limits s (with-row (s .clock) (r .sender) (row (r .clock) (r .sender))) (map (mended s r) (r .points)) → Good (settled s (with-row (s .clock) (r .sender) (row (r .clock) (r .sender))) (map (mended s r) (r .points)))
   unfolding mended
+  stored-good within =
+      settled-good s united (map (mended s r) (r .points)) G
+      (merged-fit s G united united-clock (r .points) (λ p. fill (s .table) (p .key .job) (r .clock) (p .object)) carried (unfold fill in agree)) within
+
+  mended-good : (x : State) → settle s united (map (mended s r) (r .points)) ≡ accepted x → Good (tidied x r)
   mended-good x e =
       let after = settle-accepted s united (map (mended s r) (r .points)) e in
-      let good = settled-good s united (map (mended s r) (r .points)) G
-      (merged-fit s G united united-clock (r .points) (λ p. fill (s .table) (p .key .job) (r .clock) (p .object)) carried (unfold fill in agree)) (after .0) in
       subst (λ (y : State). Good (tidied y r)) (after .1)
-      (unfold settled peers in
-      (tidied-good (settled s united (map (mended s r) (r .points))) r good other sender-peer row-low
+      (unfold settled peers mended in
+      (tidied-good (settled s united (map (mended s r) (r .points))) r (stored-good (after .0)) other sender-peer row-low
       (le-trans about-us (le-trans (united-clock .rising (s .own) (G .own-crew)) (entered-base united (map (mended s r) (r .points)) (s .own) (G .own-crew))))))
 
 repair-good : (s : State) (r : Reply) (x : State) → Good s → repair s r ≡ accepted x → Good x

@@ -1,17 +1,17 @@
 -- Messages are read back as they were written, and their checks are right. Assumes nothing.
-use Prim.Native.Nat.{ℕ, zero, suc, _+_, _*_, _-_, _/_, _^_, _≤_, _<_}
-use mathlib.Core.Path.{_≡_, refl, ap, ap₂, sym, _∙_, subst}
-use mathlib.Core.Bool.{Bool, true, false, _&&_}
+use Prim.Native.Nat.{ℕ, suc, _+_, _*_, _-_, _/_, _≤_, _<_}
+use mathlib.Core.Path.{_≡_, refl, ap, sym, _∙_}
+use mathlib.Core.Bool.{Bool, true, _&&_}
 use mathlib.Core.List.{List, [], _∷_, _++_, append-nil}
 use native.Mathlib.Omega.{arith}
-use lib.ListN.{length, take, length-append}
+use lib.ListN.{length, length-append}
 use Rattle.numbers.specs.declared.Controller.{Controller}
-use Rattle.numbers.specs.Words.{all?, same-list}
+use Rattle.numbers.specs.Words.{all?}
 use Rattle.numbers.specs.Numbers.{controller}
-use Rattle.numbers.proofs.Tests.{and-both, _∈_, here, there}
+use Rattle.numbers.proofs.Tests.{and-both, and-one, here, there}
 use Rattle.block.specs.Fields.{le, cut, field, upto}
 use Rattle.block.specs.Check.{sealed}
-use Rattle.block.specs.Block.{make-block, block-at, blocks}
+use Rattle.block.specs.Block.{block-at, blocks}
 use Rattle.block.proofs.Parts.{cut-past, cut-first, cut-whole}
 use Rattle.block.proofs.Numbers.{le-length}
 use Rattle.block.proofs.Arrays.{upto-same}
@@ -20,7 +20,7 @@ use Rattle.block.proofs.Content.{make-block-length, make-block-sealed, cut-cont
 use Rattle.meaning.specs.Clock.{Clock}
 use Rattle.meaning.specs.State.{Stored}
 use Rattle.meaning.specs.Message.{Outgoing, Ask, Reply}
-use Rattle.layout.specs.PointBlock.{form-1, encode-point, decode-point, encode-stored, decode-stored}
+use Rattle.layout.specs.PointBlock.{form-1, encode-point, encode-stored, decode-stored}
 use Rattle.layout.specs.Clocks.{encode-clock, decode-clock}
 use Rattle.layout.specs.Image.{encode-points}
 use Rattle.layout.specs.Messages.{checks-right, encode-outgoing, encode-reading, decode-outgoing, encode-greeting, encode-ask, decode-ask, encode-reply, decode-reply, laid-out-outgoing, laid-out-ask, laid-out-reply}
@@ -47,8 +47,13 @@ pub no-blocks : checks-right [] ≡ true
 unfolding checks-right blocks
 no-blocks = refl
 
+-- the check of a message of one block
+pub one-check : (b : List ℕ) → length b ≡ 512 → checks-right b ≡ sealed b
+unfolding checks-right
+one-check b size = ap (λ (l : List ℕ). checks-right l) (sym (append-nil b)) ∙ ap (all? sealed) (blocks-cons b [] size) ∙ ap (λ (t : Bool). sealed b && t) no-blocks ∙ and-one (sealed b)
+
 pub one-block-checked : (b : List ℕ) → length b ≡ 512 → sealed b ≡ true → checks-right b ≡ true
-one-block-checked b size good = subst (λ (l : List ℕ). checks-right l ≡ true) (append-nil b) (checks-cons b [] size good no-blocks)
+one-block-checked b size good = one-check b size ∙ good
 
 points-checked : (position : ℕ) (ps : List Stored) → AllSized ps → checks-right (encode-points position ps) ≡ true
 unfolding encode-points

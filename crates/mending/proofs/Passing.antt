@@ -104,11 +104,11 @@ module _ (s : State) (k c : Clock) (run ms : List ℕ) (w i : ℕ) (rising : asc
       pub still-ascends : ascends? stored-before (s .points) ≡ true → ascends? stored-before (z .points) ≡ true
       still-ascends up = subst (λ (x : State). ascends? stored-before (x .points) ≡ true) (sym at) (put-all-ascends c (s .points) (marked w (take i ms) (results s k run)) up)
 
-      pub still-joinable : AllJoinable s k run → (length b ≡ 512) × Laid lay-point point-block b × Joinable z k b
+      pub still-joinable : AllJoinable s k w run ms → (length b ≡ 512) × Laid lay-point point-block b × (eqb (getD ms i 0) w ≡ true → Joinable z k b)
       still-joinable can =
           let j = can i l in
-          subst (λ (x : List ℕ). (length x ≡ 512) × Laid lay-point point-block x × Joinable z k x) (sym lent)
-          (j .0, j .1, subst (λ (x : State). Joinable x k (block-at run i)) (sym at) (joinable-stays (j .2)))
+          subst (λ (x : List ℕ). (length x ≡ 512) × Laid lay-point point-block x × (eqb (getD ms i 0) w ≡ true → Joinable z k x)) (sym lent)
+          (j .0, j .1, λ t. subst (λ (x : State). Joinable x k (block-at run i)) (sym at) (joinable-stays (j .2 t)))
 
       pub still-room : RoomFor c s k w run ms → eqb (getD ms i 0) w ≡ true → length (put c (z .points) (mend z k (decode-stored form-1 b))) ≤ most-points
       still-room room t =

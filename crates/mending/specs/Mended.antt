@@ -1,8 +1,9 @@
 -- The points of a reply, each filled with the sender's clock and merged with the local one: the results of a repair. Assumes nothing.
 use Prim.Native.Nat.{ℕ, _/_, _≤_, _<_}
 use mathlib.Core.Path.{_≡_}
+use mathlib.Core.Bool.{true}
 use mathlib.Core.List.{List, [], _∷_}
-use lib.ListN.{length, take}
+use lib.ListN.{length, getD, take}
 use lib.Dec.{eqb}
 use Rattle.numbers.specs.Words.{if_then_else_, map, fold}
 use Rattle.numbers.specs.Numbers.{counter}
@@ -35,9 +36,10 @@ Joinable s k b =
     (here there : List ℕ) → length here ≡ 8 → map counter here ≡ local s (key-in b) .context → length there ≡ 8 → map counter there ≡ filled s k (decode-stored form-1 b) .context
     → Mergeable (local s (key-in b) .versions) b here there
 
--- each block of a run is laid out and can be merged
-abbrev pub AllJoinable : State → Clock → List ℕ → Type 0
-AllJoinable s k run = (i : ℕ) → i < length run / 512 → (length (block-at run i) ≡ 512) × Laid lay-point point-block (block-at run i) × Joinable s k (block-at run i)
+-- each block of a run is laid out, and can be merged where its mark is w
+abbrev pub AllJoinable : State → Clock → ℕ → List ℕ → List ℕ → Type 0
+AllJoinable s k w run ms =
+    (i : ℕ) → i < length run / 512 → (length (block-at run i) ≡ 512) × Laid lay-point point-block (block-at run i) × (eqb (getD ms i 0) w ≡ true → Joinable s k (block-at run i))
 
 -- the results whose mark is w
 unfoldable pub marked : ℕ → List ℕ → List Stored → List Stored

@@ -78,7 +78,7 @@ fn merge_point(image: &mut [u8], b: &[u8], clock: &[u8], rows: &[u8])
 // In the pass that its mark names, and in no other: so room is needed in that pass only.
 fn merge_if(image: &mut [u8], b: &[u8], clock: &[u8], rows: &[u8], mark: u8, which: u8)
     requires { ⌜ (length (now image) ≡ image-length) × Canonical (now image) × (ascends? stored-before (decode (now image) .points) ≡ true)
-        × (length (now b) ≡ 512) × Laid lay-point point-block (now b) × (length (now clock) ≡ 96) × (length (now rows) ≡ 96) × Joinable (decode (now image)) (decode-clock (now clock)) (now b)
+        × (length (now b) ≡ 512) × Laid lay-point point-block (now b) × (length (now clock) ≡ 96) × (length (now rows) ≡ 96) × (eqb mark which ≡ true → Joinable (decode (now image)) (decode-clock (now clock)) (now b))
         × (eqb mark which ≡ true → length (put (decode-clock (now rows)) (decode (now image) .points) (mend (decode (now image)) (decode-clock (now clock)) (decode-stored form-1 (now b)))) ≤ most-points) ⌝ }
     ensures { λ _. ⌜ (decode (now (image .exit)) ≡ (if eqb mark which then with-points (decode (now (image .entry))) (put (decode-clock (now (rows .entry))) (decode (now (image .entry)) .points) (mend (decode (now (image .entry))) (decode-clock (now (clock .entry))) (decode-stored form-1 (now (b .entry))))) else decode (now (image .entry))))
         × Canonical (now (image .exit)) ⌝ }
@@ -100,7 +100,7 @@ pub fn merge_marked(
     which: u8,
 )
     requires { ⌜ (length (now image) ≡ image-length) × Canonical (now image) × (ascends? stored-before (decode (now image) .points) ≡ true)
-        × (length (now clock) ≡ 96) × (length (now rows) ≡ 96) × AllJoinable (decode (now image)) (decode-clock (now clock)) (now points)
+        × (length (now clock) ≡ 96) × (length (now rows) ≡ 96) × AllJoinable (decode (now image)) (decode-clock (now clock)) which (now points) (now marks)
         × (ascends? stored-before (results (decode (now image)) (decode-clock (now clock)) (now points)) ≡ true) × (length (now points) / 512 ≤ length (now marks))
         × RoomFor (decode-clock (now rows)) (decode (now image)) (decode-clock (now clock)) which (now points) (now marks) ⌝ }
     ensures { λ _. ⌜ (decode (now (image .exit)) ≡ with-points (decode (now (image .entry))) (fold (put (decode-clock (now (rows .entry)))) (decode (now (image .entry)) .points) (marked which (take (length (now (points .entry)) / 512) (now (marks .entry))) (results (decode (now (image .entry))) (decode-clock (now (clock .entry))) (now (points .entry))))))

@@ -24,7 +24,7 @@ use Rattle.merging.specs.Merging.{arriving, agreeing}
 
 -- ---- versions of one dot that say the same are the same
 
-contents-same : (a b : Contents) → same-contents a b ≡ true → a ≡ b
+pub contents-same : (a b : Contents) → same-contents a b ≡ true → a ≡ b
 contents-same (value v) (value w) t = ap value (of-same v w t)
 contents-same (value v) deleted t = absurd (mathlib.Core.Bool.false≢true t)
 contents-same deleted (value w) t = absurd (mathlib.Core.Bool.false≢true t)

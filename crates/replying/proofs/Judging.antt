@@ -2,13 +2,12 @@
 use Prim.Native.Nat.{ℕ}
 use mathlib.Core.Path.{_≡_, refl, ap, ap₂, sym, _∙_}
 use mathlib.Core.Bool.{Bool, true, false, _&&_, not}
-use mathlib.Core.List.{List, [], _∷_, append-nil}
+use mathlib.Core.List.{List, [], _∷_}
 use lib.ListN.{length}
 use lib.Dec.{ltb}
 use Rattle.numbers.specs.declared.Controller.{Controller}
-use Rattle.numbers.specs.Words.{all?, same-list}
+use Rattle.numbers.specs.Words.{same-list}
 use Rattle.numbers.specs.Numbers.{Crew, is-controller, same-controller}
-use Rattle.numbers.proofs.Tests.{and-one}
 use Rattle.numbers.proofs.Lists.{clause}
 use Rattle.numbers.proofs.Controllers.{crew-is}
 use Rattle.refusal.specs.declared.Verdict.the-variants.{Accepted, Refused}
@@ -18,7 +17,6 @@ use Rattle.refusal.specs.Refusal.{Answer, refused, accepted, refuse_when_else_,
 use Rattle.row.specs.declared.Row.{Row}
 use Rattle.row.specs.Row.{highest}
 use Rattle.block.specs.Fields.{cut}
-use Rattle.block.specs.Check.{sealed}
 use Rattle.meaning.specs.State.{State}
 use Rattle.meaning.specs.CrewTable.{CrewTable}
 use Rattle.meaning.specs.Clock.{Clock, row}
@@ -28,16 +26,10 @@ use Rattle.layout.specs.Clocks.{decode-clock}
 use Rattle.layout.specs.Image.{image-length, decode-head, decode}
 use Rattle.layout.specs.Messages.{checks-right, encode-greeting, encode-ask, decode-ask, laid-out-ask}
 use Rattle.layout.specs.Calls.{with-message}
-use Rattle.layout.proofs.MessagesBack.{blocks-cons, no-blocks}
 use Rattle.laws.proofs.Answers.{passes-not, then, by-refusal, by-none, accepted-with}
 use Rattle.store.proofs.Lent.{table-part, clock-part, own-part}
 use Rattle.replying.specs.Judged.{ask-judged}
 use Rattle.replying.specs.Sent.{sent-keys, sent-points, reply-of}
-
--- the check of a message of one block
-pub one-check : (b : List ℕ) → length b ≡ 512 → checks-right b ≡ sealed b
-unfolding checks-right
-one-check b size = ap (λ (l : List ℕ). checks-right l) (sym (append-nil b)) ∙ ap (all? sealed) (blocks-cons b [] size) ∙ ap (λ (t : Bool). sealed b && t) no-blocks ∙ and-one (sealed b)
 
 pub asker-crew : (t : CrewTable) (a : Ask) → ask-formed t a ≡ true → Crew (a .sender)
 unfolding ask-formed

@@ -1,6 +1,6 @@
 -- What the asker lacks, listed dot by listed dot, and the loop over a list. Assumes nothing.
-use Prim.Native.Nat.{ℕ, _+_, _*_, _≤_, _<_}
-use mathlib.Core.Path.{_≡_, refl, sym, ap, ap₂, _∙_, subst}
+use Prim.Native.Nat.{ℕ, _+_, _≤_, _<_}
+use mathlib.Core.Path.{_≡_, refl, sym, ap, ap₂, _∙_}
 use mathlib.Core.Bool.{Bool, true, false, _&&_, not}
 use mathlib.Core.List.{List, [], _∷_, _++_}
 use native.Mathlib.Numerals.{add-one}
@@ -11,16 +11,13 @@ use lib.Seq.{drop-cons}
 use borrow.Author.Tests.{leb-true}
 use Rattle.numbers.specs.declared.Controller.{Controller}
 use Rattle.numbers.specs.declared.Key.{Key}
-use Rattle.numbers.specs.Words.{if_then_else_, cons-if, keep, every}
+use Rattle.numbers.specs.Words.{if_then_else_, cons-if, keep}
 use Rattle.numbers.specs.Numbers.{Crew, is-controller, is-counter, is-job, is-point, same-controller}
 use Rattle.numbers.specs.Key.{is-key}
 use Rattle.numbers.proofs.Tests.{by-test, never, and-left, and-right, and-both, or-inr, _∈_, here, there}
 use Rattle.numbers.proofs.Lists.{all-in, in-all, in-left, in-right, clause}
 use Rattle.numbers.proofs.Controllers.{crew-is}
-use Rattle.block.specs.Fields.{cut, field, upto}
-use Rattle.block.specs.Block.{Laid, block-at}
-use Rattle.block.proofs.Numbers.{Bytes, bytes-cut}
-use Rattle.block.proofs.Parts.{length-cut, part-is}
+use Rattle.block.specs.Fields.{cut, upto}
 use Rattle.block.proofs.Arrays.{upto-length, upto-at}
 use Rattle.row.specs.Row.{has}
 use Rattle.meaning.specs.CrewTable.{CrewTable, holds, share-job}
@@ -34,14 +31,11 @@ use Rattle.layout.specs.Clocks.{decode-clock}
 use Rattle.layout.specs.Image.{image-length, decode-dots, decode, goodImage}
 use Rattle.layout.specs.Messages.{decode-ask}
 use Rattle.head.proofs.Rounds.{some-job}
-use Rattle.dots.specs.DotsBlock.{lay-dots, dots-block}
-use Rattle.dots.proofs.Edits.{few-dots, count-is}
-use Rattle.image_edits.specs.Edits.{Canonical}
-use Rattle.image_edits.proofs.Lifting.{list-part-laid}
 use Rattle.store.proofs.Lent.{table-part, good-now}
 use Rattle.replying.specs.declared.Next.{Next}
 use Rattle.replying.specs.declared.Next.the-variants.{Nothing}
 use Rattle.replying.specs.Nearest.{all-crew, lacks, closer, with-key, nearest}
+use Rattle.store.proofs.ListsLent.{own-list, foreign-list}
 use Rattle.replying.proofs.Judging.{clock-lent}
 
 -- ---- the test of one listed dot
@@ -183,24 +177,6 @@ module _ (s : State) (G : Good s) where
 
   pub foreign-crewed : all-crew (s .foreign-dots) ≡ true
   foreign-crewed = crewed (s .foreign-dots) (λ l m. in-right (s .own-dots) (s .foreign-dots) m)
-
--- ---- the lists as they are lent
-
-module _ (img : List ℕ) (small : Bytes img) (size : length img ≡ image-length) (canonical : Canonical img) where
-  pub list-few : (k : ℕ) → 1 ≤ k → k ≤ 2 → field (cut img (512 * k) 512) 4 2 ≤ 60
-  list-few k l h =
-      let laid : Laid lay-dots dots-block (cut img (512 * k) 512) = subst (Laid lay-dots dots-block) (part-is img (512 * k) 512) (list-part-laid img small size canonical k l h) in
-      let long : length (cut img (512 * k) 512) ≡ 512 = length-cut img (512 * k) 512 (omega arith) in
-      let bytes : Bytes (cut img (512 * k) 512) = bytes-cut img (512 * k) 512 small in
-      omega (arith, count-is (cut img (512 * k) 512) bytes long laid, few-dots (cut img (512 * k) 512) bytes long laid)
-
-pub own-list : (img : List ℕ) → decode-dots (cut img 512 512) ≡ decode img .own-dots
-unfolding decode block-at
-own-list img = refl
-
-pub foreign-list : (img : List ℕ) → decode-dots (cut img 1024 512) ≡ decode img .foreign-dots
-unfolding decode block-at
-foreign-list img = refl
 
 module _ (img : List ℕ) (size : length img ≡ image-length) (good : goodImage img ≡ true) (m : List ℕ) (asker : Controller) (read : asker ≡ decode-ask m .sender) where
   abbrev f : Listed → Bool

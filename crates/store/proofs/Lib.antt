@@ -6,3 +6,4 @@ pub mod Lent
 pub mod Untouched
 pub mod Record
 pub mod OneEntry
+pub mod ListsLent

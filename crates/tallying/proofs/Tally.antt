@@ -46,7 +46,7 @@ module _ {A : Type 0} (f : A → Bool) where
   all-kept : (xs : List A) → fold (λ m x. m + mark (f x)) 0 xs ≡ length (keep f xs)
   all-kept xs = omega (arith, fold-kept 0 xs)
 
-map-upto : {A B : Type 0} (g : A → B) (n : ℕ) (f : ℕ → A) → map g (upto n f) ≡ upto n (λ i. g (f i))
+pub map-upto : {A B : Type 0} (g : A → B) (n : ℕ) (f : ℕ → A) → map g (upto n f) ≡ upto n (λ i. g (f i))
 map-upto g zero f = refl
 map-upto g (suc n) f = ap (λ (ys : List _). g (f 0) ∷ ys) (map-upto g n (λ i. f (suc i)))
 

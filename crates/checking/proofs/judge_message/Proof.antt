@@ -6,7 +6,8 @@ use Rattle.block.proofs.Numbers.{bytes-of}
 use Rattle.layout.specs.Image.{decode}
 use Rattle.layout.specs.Messages.{decode-outgoing}
 use Rattle.merging.proofs.Slots.{few-slots}
-use Rattle.checking.proofs.Judging.{one-check, laid-out-is, laid-message, sender-crew, formed-is, wrong-check, not-laid-out, not-formed, by-the-rest}
+use Rattle.layout.proofs.MessagesBack.{one-check}
+use Rattle.checking.proofs.Judging.{laid-out-is, laid-message, sender-crew, formed-is, wrong-check, not-laid-out, not-formed, by-the-rest}
 use denote.Ref.{now}
 use Rattle.checking.proofs.judge_message.Statement.{statement}
 use Rattle.checking.proofs.judge_message.Tie as tie

@@ -2,7 +2,8 @@
 use borrow.Author.Needs.{needs}
 use Rattle.block.proofs.Numbers.{bytes-of}
 use Rattle.store.proofs.Lent.{good-canonical}
-use Rattle.checking.proofs.Otherwise.{list-few, own-ascends, foreign-ascends, own-otherwise, foreign-otherwise}
+use Rattle.store.proofs.ListsLent.{list-few}
+use Rattle.checking.proofs.Otherwise.{own-ascends, foreign-ascends, own-otherwise, foreign-otherwise}
 use denote.Ref.{now}
 use native.Mathlib.Omega.{arith}
 use Rattle.checking.proofs.listed_otherwise.Statement.{statement}

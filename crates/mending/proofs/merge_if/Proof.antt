@@ -6,7 +6,7 @@ use Rattle.mending.proofs.merge_if.Statement.{statement}
 use Rattle.mending.proofs.merge_if.Tie as tie
 
 merge-point-requires : tie.Need-merge-point-requires
-merge-point-requires c κs = (c .before .before .before .before .before .before .pre .0, c .before .before .before .before .before .before .pre .1, c .before .before .before .before .before .before .pre .2, c .before .before .before .before .before .before .pre .3, c .before .before .before .before .before .before .pre .4, c .before .before .before .before .before .before .pre .5, c .before .before .before .before .before .before .pre .6, c .before .before .before .before .before .before .pre .7, c .before .before .before .before .before .before .pre .8 (eq-eqb _ _ (c .before .if1 .taken)))
+merge-point-requires c κs = (c .before .before .before .before .before .before .pre .0, c .before .before .before .before .before .before .pre .1, c .before .before .before .before .before .before .pre .2, c .before .before .before .before .before .before .pre .3, c .before .before .before .before .before .before .pre .4, c .before .before .before .before .before .before .pre .5, c .before .before .before .before .before .before .pre .6, c .before .before .before .before .before .before .pre .7 (eq-eqb _ _ (c .before .if1 .taken)), c .before .before .before .before .before .before .pre .8 (eq-eqb _ _ (c .before .if1 .taken)))
 
 same-length : tie.Need-same-length
 same-length c = search needs

@@ -6,7 +6,8 @@ use Rattle.numbers.specs.Numbers.{Crew}
 use Rattle.meaning.specs.Exchange.{other-peer, row-ahead-of-us}
 use Rattle.layout.specs.Image.{decode}
 use Rattle.layout.specs.Messages.{decode-ask}
-use Rattle.replying.proofs.Judging.{one-check, asker-crew, laid-is, clock-lent, formed-is, wrong-check, not-laid-out, not-formed, no-peer, not-for-us, history-lost, may-reply}
+use Rattle.layout.proofs.MessagesBack.{one-check}
+use Rattle.replying.proofs.Judging.{asker-crew, laid-is, clock-lent, formed-is, wrong-check, not-laid-out, not-formed, no-peer, not-for-us, history-lost, may-reply}
 use denote.Ref.{now}
 use Rattle.replying.proofs.judge_ask.Statement.{statement}
 use Rattle.replying.proofs.judge_ask.Tie as tie

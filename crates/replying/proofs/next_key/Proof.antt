@@ -6,7 +6,8 @@ use Rattle.block.proofs.Numbers.{bytes-of}
 use Rattle.layout.specs.Image.{decode}
 use Rattle.store.proofs.Lent.{good-now, good-canonical}
 use Rattle.replying.specs.Nearest.{all-crew}
-use Rattle.replying.proofs.Lacking.{own-crewed, foreign-crewed, list-few, own-list, foreign-list, next-lent}
+use Rattle.store.proofs.ListsLent.{list-few, own-list, foreign-list}
+use Rattle.replying.proofs.Lacking.{own-crewed, foreign-crewed, next-lent}
 use denote.Ref.{now}
 use native.Mathlib.Omega.{arith}
 use Rattle.replying.proofs.next_key.Statement.{statement}

@@ -4,6 +4,7 @@ use mathlib.Core.Path.{ap, sym, _∙_}
 use Rattle.numbers.specs.declared.Key.{Key}
 use Rattle.meaning.specs.State.{local}
 use Rattle.layout.specs.Image.{decode}
+use Rattle.store.proofs.Lent.{good-ascends, good-canonical}
 use Rattle.store.proofs.Record.{context-of}
 use denote.Ref.{now}
 use Rattle.taking.proofs.take_in_entered.Statement.{statement}
@@ -16,7 +17,7 @@ slice-aggregate-local-context : tie.Need-slice-aggregate-local-context
 slice-aggregate-local-context c = search needs
 
 local-context-requires : tie.Need-local-context-requires
-local-context-requires c κs = search needs
+local-context-requires c κs = (c .before .before .before .before .before .before .pre .0, good-canonical (now (c .before .before .before .before .before .before .args .image)) (c .before .before .before .before .before .before .pre .1), c .before .before .before .before .before .before .pre .2, good-ascends (now (c .before .before .before .before .before .before .args .image)) (c .before .before .before .before .before .before .pre .1), search needs)
 
 sub-given-context : tie.Need-sub-given-context
 sub-given-context c = search needs

@@ -1,0 +1,3 @@
+pub mod OfReply
+pub mod Passes
+pub mod Made

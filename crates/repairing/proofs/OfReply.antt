@@ -1,0 +1,112 @@
+-- What a reply has that was heard: its results, their order, and the clock and the lists that they leave. Assumes nothing.
+use Prim.Native.Nat.{ℕ, _/_, _<_}
+use mathlib.Core.Path.{_≡_, refl}
+use mathlib.Core.Bool.{true, false, _&&_, _||_}
+use mathlib.Core.List.{List}
+use lib.ListN.{length}
+use Rattle.numbers.specs.Words.{all?, some?, ascends?}
+use Rattle.numbers.specs.Numbers.{Crew, same-controller}
+use Rattle.numbers.proofs.Tests.{or-false, _∈_}
+use Rattle.numbers.proofs.Orders.{map-ascends}
+use Rattle.refusal.specs.declared.Verdict.the-variants.{Accepted}
+use Rattle.refusal.specs.declared.Refusal.the-variants.{OutOfRange, NotPeer, HistoryLost, DotClash}
+use Rattle.refusal.specs.Refusal.{verdict-of}
+use Rattle.block.specs.Block.{block-at}
+use Rattle.block.proofs.Arrays.{upto-in}
+use Rattle.meaning.specs.Object.{fill}
+use Rattle.meaning.specs.State.{Stored, stored-before, State}
+use Rattle.meaning.specs.Message.{Reply}
+use Rattle.meaning.specs.Settle.{entered, own-listed, foreign-listed}
+use Rattle.meaning.specs.Exchange.{both-hold, other-peer, ahead-of-us, row-ahead-of-us, clashes, mended}
+use Rattle.laws.proofs.Answers.{passes, passes-not, accepted-with}
+use Rattle.laws.proofs.Goodness.{Good}
+use Rattle.laws.proofs.Merging.{Clocked, Carried}
+use Rattle.laws.proofs.StaysGood.{other, united-clock}
+use Rattle.layout.specs.PointBlock.{form-1, decode-stored}
+use Rattle.arriving.specs.Sent.{with-arrivals}
+use Rattle.arriving.proofs.Merged.{entered-is}
+use Rattle.noting.specs.Noted.{noted}
+use Rattle.joining.proofs.Noted.{own-kept, foreign-is}
+use Rattle.hearing.specs.Heard.{AllLaid, reply-in, peers-judged}
+use Rattle.hearing.proofs.Filled.{reply-sender, points-ascend, apart-dots, filled-takable, filled-carried}
+use Rattle.mending.specs.Mended.{results}
+use Rattle.tallying.specs.Tallied.{AllReady}
+use Rattle.repairing.specs.Repaired.{united, outcome, Heard}
+
+-- what rows 5 to 10 leave of a reply
+pub record Passed (s : State) (q : Reply) : Type 0 where
+  pub held : all? (λ p. both-hold s (q .sender) (p .key)) (q .points) ≡ true
+  pub peer : (other-peer s (q .sender) && same-controller (q .addressee) (s .own)) ≡ true
+  pub behind : (some? (λ p. ahead-of-us s (p .object)) (q .points) || row-ahead-of-us s (q .clock)) ≡ false
+  pub free : some? (λ p. some? (clashes s (p .key)) (p .object .versions)) (q .points) ≡ false
+
+pub passed : (s : State) (q : Reply) → verdict-of (peers-judged s q true) ≡ Accepted → Passed s q
+unfolding peers-judged
+passed s q e =
+    let a = accepted-with (peers-judged s q true) e .1 in
+    let one = passes-not OutOfRange (all? (λ p. both-hold s (q .sender) (p .key)) (q .points)) _ a in
+    let two = passes-not NotPeer (other-peer s (q .sender) && same-controller (q .addressee) (s .own)) _ (one .1) in
+    let three = passes HistoryLost (some? (λ p. ahead-of-us s (p .object)) (q .points) || row-ahead-of-us s (q .clock)) _ (two .1) in
+    let four = passes DotClash (some? (λ p. some? (clashes s (p .key)) (p .object .versions)) (q .points)) _ (three .1) in
+    record { held = one .0; peer = two .0; behind = three .0; free = four .0 }
+
+module _ (s : State) (G : Good s) (q : Reply) (h : Heard s q) where
+  P : Passed s q
+  P = passed s q (h .1)
+
+  pub sender-crew : Crew (q .sender)
+  sender-crew = reply-sender s q (h .0)
+
+  pub sender-other : same-controller (q .sender) (s .own) ≡ false
+  sender-other = other s q G (h .0) (P .held) (P .peer) (P .behind) (P .free)
+
+  pub clocked : Clocked s (united s q)
+  clocked = united-clock s q G (h .0) (P .held) (P .peer) (P .behind) (P .free)
+
+  not-ahead : (some? (λ p. ahead-of-us s (p .object)) (q .points) ≡ false) × (row-ahead-of-us s (q .clock) ≡ false)
+  not-ahead = or-false (some? (λ p. ahead-of-us s (p .object)) (q .points)) (row-ahead-of-us s (q .clock)) (P .behind)
+
+  carried : (p : Stored) → p ∈ q .points → Carried s (p .key) (fill (s .table) (p .key .job) (q .clock) (p .object))
+  carried p m = filled-carried s q (h .0) (G .own-crew) (P .held) (not-ahead .0) (not-ahead .1) (P .free) p m
+
+  pub clock-is : entered (united s q) (outcome s q) ≡ with-arrivals s (united s q) (q .points)
+  unfolding mended
+  clock-is = entered-is s G (united s q) clocked (q .points) (λ p. fill (s .table) (p .key .job) (q .clock) (p .object)) (λ p. unfold fill in refl) carried (apart-dots s q (h .0))
+
+  pub own-is : own-listed s (outcome s q) ≡ s .own-dots
+  unfolding mended
+  own-is = own-kept s G (q .points) (λ p. fill (s .table) (p .key .job) (q .clock) (p .object)) (λ p. unfold fill in refl) carried (apart-dots s q (h .0))
+
+  pub foreign-are : foreign-listed s (outcome s q) ≡ noted s (q .points)
+  unfolding mended
+  foreign-are = foreign-is s G (q .points) (λ p. fill (s .table) (p .key .job) (q .clock) (p .object)) (λ p. unfold fill in refl) carried (apart-dots s q (h .0))
+
+  -- results have their points' keys, so they ascend as these do
+  pub in-order : ascends? stored-before (outcome s q) ≡ true
+  unfolding mended
+  in-order = map-ascends stored-before stored-before (mended s q) (λ x y t. t) (q .points) (points-ascend s q (h .0))
+
+-- the results as the code takes them from a run of blocks
+module _ (s : State) (G : Good s) (head run : List ℕ) (h : Heard s (reply-in head run)) where
+  abbrev r : Reply
+  r = reply-in head run
+
+  pub results-are : results s (reply-in head run .clock) run ≡ outcome s (reply-in head run)
+  unfolding mended
+  results-are = refl
+
+  pub all-ready : ((i : ℕ) → i < length run / 512 → length (block-at run i) ≡ 512) → AllLaid run → AllReady s (reply-in head run .clock) run
+  all-ready long laid i l = (long i l, laid i l, may)
+    where
+      p : Stored
+      p = decode-stored form-1 (block-at run i)
+
+      F : Passed s r
+      F = passed s r (h .1)
+
+      b : (some? (λ p. ahead-of-us s (p .object)) (r .points) ≡ false) × (row-ahead-of-us s (r .clock) ≡ false)
+      b = or-false (some? (λ p. ahead-of-us s (p .object)) (r .points)) (row-ahead-of-us s (r .clock)) (F .behind)
+
+      may : Rattle.weighing.specs.Weighed.takable s (Rattle.weighing.specs.Weighed.key-in (block-at run i)) (fill (s .table) (decode-stored form-1 (block-at run i) .key .job) (r .clock) (decode-stored form-1 (block-at run i) .object)) ≡ true
+      unfolding decode-stored
+      may = filled-takable s r (h .0) (G .own-crew) (F .held) (b .0) (b .1) (F .free) p (upto-in (length run / 512) (λ j. decode-stored form-1 (block-at run j)) i l)
