@@ -1,6 +1,6 @@
 -- What an accepted reply has passed, and what is then made of a repair. Assumes nothing.
 use Prim.Native.Nat.{ℕ}
-use mathlib.Core.Path.{_≡_, refl, _∙_}
+use mathlib.Core.Path.{_≡_, refl, sym, _∙_}
 use mathlib.Core.Bool.{Bool, true, false, _&&_, _||_, not}
 use mathlib.Core.List.{List}
 use lib.ListN.{drop}
@@ -24,8 +24,8 @@ use Rattle.layout.specs.Messages.{checks-right, decode-reply, laid-out-reply}
 use Rattle.layout.specs.Calls.{with-message}
 use Rattle.noting.specs.Noted.{Crewed}
 use Rattle.weighing.specs.Weighed.{takable}
+use Rattle.reply_form.proofs.Points.{points-are}
 use Rattle.hearing.specs.Heard.{peers-judged, reply-judged}
-use Rattle.hearing.proofs.Points.{points-after}
 use Rattle.hearing.proofs.Filled.{reply-sender, crewed-points, apart-dots, filled-takable, filled-carried}
 
 -- what rows 3 to 10 leave of a reply
@@ -47,7 +47,7 @@ module _ (message : List ℕ) (s : State) (F : ReplyFacts message s) where
   heard-sender = reply-sender s (decode-reply message) (F .formed)
 
   pub heard-crewed : Crewed (drop 512 message)
-  heard-crewed = crewed-points s (decode-reply message) (F .formed) (drop 512 message) (points-after message)
+  heard-crewed = crewed-points s (decode-reply message) (F .formed) (drop 512 message) (sym (points-are message))
 
   pub heard-apart : (p q : Stored) (v w : Version) → p ∈ decode-reply message .points → q ∈ decode-reply message .points → v ∈ p .object .versions → w ∈ q .object .versions → v .dot ≡ w .dot → p .key ≡ q .key
   heard-apart = apart-dots s (decode-reply message) (F .formed)

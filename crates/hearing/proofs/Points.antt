@@ -3,23 +3,19 @@ use Prim.Native.Nat.{ℕ, _+_, _*_, _-_, _/_, _≤_, _<_}
 use mathlib.Core.Path.{_≡_, refl, ap, ap₂, sym, _∙_, subst}
 use mathlib.Core.Bool.{Bool, true, false, _&&_, not}
 use mathlib.Core.List.{List}
-use native.Mathlib.Omega.{arith}
-use lib.ListN.{length, take, drop, length-drop}
-use lib.Seq.{drop-drop}
+use lib.ListN.{length, take, drop}
 use borrow.Author.Tests.{not-true, not-false}
 use Rattle.numbers.specs.declared.Controller.{Controller}
 use Rattle.numbers.specs.declared.Key.{Key}
 use Rattle.numbers.specs.Words.{all?}
 use Rattle.block.specs.Fields.{cut, field, upto}
 use Rattle.block.specs.Block.{block-at, Laid}
-use Rattle.block.proofs.Arrays.{upto-same}
 use Rattle.block.proofs.Numbers.{Bytes}
 use Rattle.block.proofs.Passing.{all-upto, Passing, one-fails, all-passed}
 use Rattle.row.specs.declared.Row.{Row}
 use Rattle.meaning.specs.CrewTable.{holds}
 use Rattle.meaning.specs.Clock.{Clock, row}
 use Rattle.meaning.specs.Object.{Object}
-use Rattle.meaning.specs.State.{Stored}
 use Rattle.meaning.specs.Exchange.{both-hold, ahead-of-us}
 use Rattle.layout.specs.PointBlock.{form-1, decode-point, decode-stored}
 use Rattle.layout.specs.Clocks.{decode-clock}
@@ -27,16 +23,13 @@ use Rattle.layout.specs.Image.{image-length, decode-head, decode}
 use Rattle.layout.specs.Messages.{decode-ask, decode-reply}
 use Rattle.record_edits.specs.Written.{lay-point, point-block}
 use Rattle.store.proofs.Lent.{table-part, clock-part}
-use Rattle.arriving.specs.Sent.{points-in}
 use Rattle.arriving.proofs.OfPoints.{lent-block}
 use Rattle.checking.specs.Points.{above}
 use Rattle.checking.proofs.Ahead.{above-is}
 use Rattle.replying.proofs.Judging.{own-lent}
+use Rattle.reply_form.specs.Parts.{point-of}
+use Rattle.reply_form.proofs.Points.{points-are}
 use Rattle.hearing.specs.Heard.{AllLaid, reply-in}
-
--- the points of a run by their places
-abbrev pub point-of : List ℕ → ℕ → Stored
-point-of run i = decode-stored form-1 (block-at run i)
 
 module _ (run : List ℕ) (small : Bytes run) (j : ℕ) where
   -- a test of the block that was lent is a test of the point
@@ -52,28 +45,12 @@ module _ (run : List ℕ) (small : Bytes run) (j : ℕ) where
 -- ---- a reply as it is lent: its head, and the rest
 
 module _ (m : List ℕ) where
-  pub block-after : (i : ℕ) → block-at m (1 + i) ≡ block-at (drop 512 m) i
-  unfolding block-at
-  block-after i = sym (ap (take 512) (drop-drop (512 * i) 512 m ∙ ap (λ (o : ℕ). drop o m) there))
-    where
-      there : 512 + 512 * i ≡ 512 * (1 + i)
-      there = omega arith
-
-  fewer-by-one : length m / 512 - 1 ≡ length (drop 512 m) / 512
-  fewer-by-one = omega (arith, length-drop 512 m)
-
-  pub points-after : decode-reply m .points ≡ points-in (drop 512 m)
-  unfolding decode-reply
-  points-after =
-      ap (λ (n : ℕ). upto n (λ i. decode-stored form-1 (block-at m (1 + i)))) fewer-by-one
-      ∙ upto-same (length (drop 512 m) / 512) (λ i. decode-stored form-1 (block-at m (1 + i))) (point-of (drop 512 m)) (λ i l. ap (decode-stored form-1) (block-after i))
-
   head-first : decode-ask (block-at m 0) ≡ decode-ask (cut m 0 512)
   unfolding block-at
   head-first = refl
 
   pub reply-lent : decode-reply m ≡ reply-in (cut m 0 512) (drop 512 m)
-  reply-lent = heads ∙ λ i. record { sender = head-first i .sender; addressee = head-first i .addressee; clock = head-first i .clock; points = points-after i }
+  reply-lent = heads ∙ λ i. record { sender = head-first i .sender; addressee = head-first i .addressee; clock = head-first i .clock; points = sym (points-are m) i }
     where
       heads : decode-reply m ≡ record { sender = decode-ask (block-at m 0) .sender; addressee = decode-ask (block-at m 0) .addressee; clock = decode-ask (block-at m 0) .clock; points = decode-reply m .points }
       heads = unfold decode-reply in refl

@@ -1,4 +1,4 @@
-// The checks of a reply, on the lent bytes alone, before anything of it is taken in: rows 5, 6, 9 and 10 of the table. Its points are lent as a
+// The checks of a reply, on the lent bytes alone, before anything of it is taken in: rows 3 to 6, 9 and 10 of the table. Its points are lent as a
 // run of whole blocks, its head beside them.
 use numbers::Controller;
 use refusal::Refusal;
@@ -13,8 +13,9 @@ ghost use Rattle.meaning.specs.Exchange.{both-hold, ahead-of-us, clashes};
 ghost use Rattle.layout.specs.PointBlock.{form-1, decode-point};
 ghost use Rattle.layout.specs.Image.{image-length, decode, goodImage};
 ghost use Rattle.layout.specs.Messages.{decode-ask};
+ghost use Rattle.layout.specs.Calls.{whole-reply};
 ghost use Rattle.arriving.specs.Sent.{points-in, Few};
-ghost use Rattle.hearing.specs.Heard.{AllLaid, reply-in, peers-judged};
+ghost use Rattle.hearing.specs.Heard.{AllLaid, reply-in, peers-judged, reply-judged};
 
 // 5: "a job (argument's or message's) not held here or not by the sender", of the point block b
 fn job_held(image: &[u8], sender: Controller, b: &[u8]) -> bool
@@ -108,4 +109,21 @@ pub fn judge_points(image: &[u8], head: &[u8], points: &[u8]) -> Verdict
         return Verdict::Refused(Refusal::DotClash);
     }
     Verdict::Accepted
+}
+
+// The first refusal that applies to a reply, of those that are judged before it is taken in.
+pub fn judge_reply(image: &[u8], reply: &[u8]) -> Verdict
+    requires { ⌜ (length (now image) ≡ image-length) × (goodImage (now image) ≡ true) × (whole-reply (now reply) ≡ true) ⌝ }
+    ensures { λ r. ⌜ r ≡ verdict-of (reply-judged (now (reply .entry)) (decode (now (image .entry))) true) ⌝ }
+{
+    if !reply_form::reply_sealed(reply) {
+        return Verdict::Refused(Refusal::WrongCheck);
+    }
+    if !reply_form::reply_laid_out(reply) {
+        return Verdict::Refused(Refusal::IllFormed);
+    }
+    if !reply_form::reply_formed(reply, &image[8..16]) {
+        return Verdict::Refused(Refusal::IllFormed);
+    }
+    judge_points(image, &reply[0..512], &reply[512..])
 }

@@ -38,8 +38,8 @@ module _ (s : State) (G : Good s) (q : Reply) (h : Heard s q) (c : Clock) (is : 
     table = s .table;
     clock = is i;
     watermark = s .watermark;
-    own-dots = own-is s G q h (~ i);
-    foreign-dots = foreign-are s G q h (~ i);
+    own-dots = sym (own-is s G q h) i;
+    foreign-dots = sym (foreign-are s G q h) i;
     points = fold (put (is i)) (s .points) (outcome s q);
   }
 
@@ -60,7 +60,8 @@ module _ (s : State) (G : Good s) (q : Reply) (h : Heard s q) (c : Clock) (is : 
     own-there = good-there .own-crew
 
     pub other-there : (n : Controller) → n ≡ q .sender → same-controller n (decode x₄ .own) ≡ false
-    other-there n e = ap (λ (z : State). same-controller n (z .own)) state-stored ∙ ap (λ (m : Controller). same-controller m (s .own)) e ∙ (unfold settled in sender-other s G q h)
+    unfolding settled
+    other-there n e = ap (λ (z : State). same-controller n (z .own)) state-stored ∙ ap (λ (m : Controller). same-controller m (s .own)) e ∙ sender-other s G q h
 
     pub sender-there : (n : Controller) → n ≡ q .sender → Crew n
     sender-there n e = subst Crew (sym e) (sender-crew s G q h)

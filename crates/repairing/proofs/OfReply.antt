@@ -70,16 +70,16 @@ module _ (s : State) (G : Good s) (q : Reply) (h : Heard s q) where
   carried p m = filled-carried s q (h .0) (G .own-crew) (P .held) (not-ahead .0) (not-ahead .1) (P .free) p m
 
   pub clock-is : entered (united s q) (outcome s q) ≡ with-arrivals s (united s q) (q .points)
-  unfolding mended
-  clock-is = entered-is s G (united s q) clocked (q .points) (λ p. fill (s .table) (p .key .job) (q .clock) (p .object)) (λ p. unfold fill in refl) carried (apart-dots s q (h .0))
+  unfolding mended fill
+  clock-is = entered-is s G (united s q) clocked (q .points) (λ p. fill (s .table) (p .key .job) (q .clock) (p .object)) (λ p. refl) carried (apart-dots s q (h .0))
 
   pub own-is : own-listed s (outcome s q) ≡ s .own-dots
-  unfolding mended
-  own-is = own-kept s G (q .points) (λ p. fill (s .table) (p .key .job) (q .clock) (p .object)) (λ p. unfold fill in refl) carried (apart-dots s q (h .0))
+  unfolding mended fill
+  own-is = own-kept s G (q .points) (λ p. fill (s .table) (p .key .job) (q .clock) (p .object)) (λ p. refl) carried (apart-dots s q (h .0))
 
   pub foreign-are : foreign-listed s (outcome s q) ≡ noted s (q .points)
-  unfolding mended
-  foreign-are = foreign-is s G (q .points) (λ p. fill (s .table) (p .key .job) (q .clock) (p .object)) (λ p. unfold fill in refl) carried (apart-dots s q (h .0))
+  unfolding mended fill
+  foreign-are = foreign-is s G (q .points) (λ p. fill (s .table) (p .key .job) (q .clock) (p .object)) (λ p. refl) carried (apart-dots s q (h .0))
 
   -- results have their points' keys, so they ascend as these do
   pub in-order : ascends? stored-before (outcome s q) ≡ true
@@ -96,6 +96,7 @@ module _ (s : State) (G : Good s) (head run : List ℕ) (h : Heard s (reply-in h
   results-are = refl
 
   pub all-ready : ((i : ℕ) → i < length run / 512 → length (block-at run i) ≡ 512) → AllLaid run → AllReady s (reply-in head run .clock) run
+  unfolding decode-stored
   all-ready long laid i l = (long i l, laid i l, may)
     where
       p : Stored
@@ -108,5 +109,4 @@ module _ (s : State) (G : Good s) (head run : List ℕ) (h : Heard s (reply-in h
       b = or-false (some? (λ p. ahead-of-us s (p .object)) (r .points)) (row-ahead-of-us s (r .clock)) (F .behind)
 
       may : Rattle.weighing.specs.Weighed.takable s (Rattle.weighing.specs.Weighed.key-in (block-at run i)) (fill (s .table) (decode-stored form-1 (block-at run i) .key .job) (r .clock) (decode-stored form-1 (block-at run i) .object)) ≡ true
-      unfolding decode-stored
       may = filled-takable s r (h .0) (G .own-crew) (F .held) (b .0) (b .1) (F .free) p (upto-in (length run / 512) (λ j. decode-stored form-1 (block-at run j)) i l)

@@ -148,16 +148,16 @@ module _ (s : State) (G : Good s) (k c : Clock) (run ms : List ℕ) (R : AllRead
 
   -- one that comes is another point than all of the first pass
   apart : (p : Stored) → p ∈ points-in run → f (mend s k p) ≡ true → None-of (p .key) (keep (λ r. not (f r)) rs)
-  apart p m yes r h =
+  apart p m told r h =
       by-test (same-key (p .key) (r .key))
-      (λ t. never yes (subst (λ (x : Stored). f x ≡ false) (sym (one-of-key (mend s k p) r (map-in (mend s k) (points-in run) m) (in-keep (λ x. not (f x)) rs h .0) t)) (not-true (f r) (in-keep (λ x. not (f x)) rs h .1))))
+      (λ t. never told (subst (λ (x : Stored). f x ≡ false) (sym (one-of-key (mend s k p) r (map-in (mend s k) (points-in run) m) (in-keep (λ x. not (f x)) rs h .0) t)) (not-true (f r) (in-keep (λ x. not (f x)) rs h .1))))
       (λ t. t)
     where
       one-of-key : (a b : Stored) → a ∈ rs → b ∈ rs → same-key (a .key) (b .key) ≡ true → a ≡ b
       one-of-key a b ma mb t = one-place stored-before rs order ma mb (tied-of a b t)
 
   local-second : (p : Stored) → p ∈ points-in run → f (mend s k p) ≡ true → local s₂ (p .key) ≡ local s (p .key)
-  local-second p m yes = others-local c s₁ (keep (λ r. not (f r)) rs) (p .key) (apart p m yes) ∙ (unfold local in refl)
+  local-second p m told = others-local c s₁ (keep (λ r. not (f r)) rs) (p .key) (apart p m told) ∙ (unfold local in refl)
 
   comes-then : (i : ℕ) → i < length run / 512 → eqb (getD ms i 0) 1 ≡ true → f (mend s k (point i)) ≡ true
   comes-then i l t = yes-mark (f (mend s k (point i))) (subst (λ (x : ℕ). eqb x 1 ≡ true) mark-at t)
@@ -173,10 +173,10 @@ module _ (s : State) (G : Good s) (k c : Clock) (run ms : List ℕ) (R : AllRead
     second-ascends = subst (λ (x : State). ascends? stored-before (x .points) ≡ true) (sym is) (put-all-ascends c (s .points) (keep (λ r. not (f r)) rs) up)
 
     pub second-joinable : AllJoinable z k 1 run ms
+    unfolding decode-stored
     second-joinable = subst (λ (x : State). AllJoinable x k 1 run ms) (sym is) each
       where
         each : AllJoinable s₂ k 1 run ms
-        unfolding decode-stored
         each i l = (R i l .0, R i l .1, λ t. joinable-there s s₂ k (block-at run i) refl (local-second (point i) (point-in i l) (comes-then i l t)) (can i l))
 
     pub second-order : ascends? stored-before (results z k run) ≡ true
@@ -190,7 +190,7 @@ module _ (s : State) (G : Good s) (k c : Clock) (run ms : List ℕ) (R : AllRead
     taken = ap (λ (xs : List ℕ). marked 1 xs (results s₂ k run)) marks ∙ marked-kept f (mend s k) (mend s₂ k) (points-in run) same
       where
         same : (p : Stored) → p ∈ points-in run → f (mend s k p) ≡ true → mend s₂ k p ≡ mend s k p
-        same p m yes = ap (λ (o : Object). record { key = p .key; object = merge o (filled s k p) }) (local-second p m yes)
+        same p m told = ap (λ (o : Object). record { key = p .key; object = merge o (filled s k p) }) (local-second p m told)
 
     pub second-room : RoomFor c z k 1 run ms
     second-room = subst (λ (x : State). RoomFor c x k 1 run ms) (sym is) room

@@ -27,7 +27,14 @@ ghost use Rattle.repairing.specs.Repaired.{united, outcome, clock-after,
 
 // A reply that was judged: new dots are listed, the points are merged, those first that need no new place, the rows are the new ones, the watermark is
 // raised and what all know goes from the lists. Local objects are filled with the rows as they were, so these come after the points.
-fn put_repaired(image: &mut [u8], count: usize, head: &[u8], points: &[u8], rows: &[u8], marks: &[u8])
+fn put_repaired(
+    image: &mut [u8],
+    count: usize,
+    head: &[u8],
+    points: &[u8],
+    rows: &[u8],
+    marks: &[u8],
+)
     requires { ⌜ (length (now image) ≡ image-length) × (goodImage (now image) ≡ true) × (count ≡ length (decode (now image) .points)) × Lent (decode (now image)) (now head) (now points)
         × (length (now rows) ≡ 96) × (decode-clock (now rows) ≡ clock-after (decode (now image)) (reply-in (now head) (now points))) × (length (now marks) ≡ 120)
         × (take (length (now points) / 512) (now marks) ≡ map (λ q. mark (comes (decode-clock (now rows)) (decode (now image) .points) q)) (outcome (decode (now image)) (reply-in (now head) (now points))))
@@ -67,7 +74,13 @@ fn repair_marked(
 }
 
 // The rows have taken what arrives.
-fn repair_entered(image: &mut [u8], count: usize, head: &[u8], points: &[u8], rows: &[u8]) -> Verdict
+fn repair_entered(
+    image: &mut [u8],
+    count: usize,
+    head: &[u8],
+    points: &[u8],
+    rows: &[u8],
+) -> Verdict
     requires { ⌜ (length (now image) ≡ image-length) × (goodImage (now image) ≡ true) × (count ≡ length (decode (now image) .points)) × Lent (decode (now image)) (now head) (now points)
         × (length (now rows) ≡ 96) × (decode-clock (now rows) ≡ clock-after (decode (now image)) (reply-in (now head) (now points))) × (every-row fits (decode-clock (now rows)) ≡ true) ⌝ }
     ensures { λ r. ⌜ (r ≡ afterwards (now (image .entry)) [] (left-by (made-of (decode (now (image .entry))) (reply-in (now (head .entry)) (now (points .entry))))) .verdict)
@@ -75,4 +88,33 @@ fn repair_entered(image: &mut [u8], count: usize, head: &[u8], points: &[u8], ro
 {
     let mut marks: [u8; 120] = [0; 120];
     repair_marked(image, count, head, points, rows, &mut marks)
+}
+
+// 11, and then the rest.
+fn repair_heard(image: &mut [u8], head: &[u8], points: &[u8]) -> Verdict
+    requires { ⌜ (length (now image) ≡ image-length) × (goodImage (now image) ≡ true) × Lent (decode (now image)) (now head) (now points) ⌝ }
+    ensures { λ r. ⌜ (r ≡ afterwards (now (image .entry)) [] (left-by (made-of (decode (now (image .entry))) (reply-in (now (head .entry)) (now (points .entry))))) .verdict)
+        × (now (image .exit) ≡ afterwards (now (image .entry)) [] (left-by (made-of (decode (now (image .entry))) (reply-in (now (head .entry)) (now (points .entry))))) .image) ⌝ }
+{
+    let count = image::stored_count(image);
+    let mut rows: [u8; 96] = [0; 96];
+    let sender = greeting::sender_of(head);
+    if !uniting::new_rows(image, count, sender, points, &head[8..104], &mut rows) {
+        return Verdict::Refused(Refusal::RowTooFar);
+    }
+    repair_entered(image, count, head, points, &rows)
+}
+
+// Rows 3 to 10, and then the rest: what a reader of the reply that has handed out nothing yet brings.
+pub fn repair_at(image: &mut [u8], reply: &[u8], at: usize) -> Verdict
+    requires { ⌜ (length (now image) ≡ image-length) × (goodImage (now image) ≡ true) × (whole-reply (now reply) ≡ true) × (at ≡ 0) ⌝ }
+    ensures { λ r. ⌜ (r ≡ afterwards (now (image .entry)) [] (repaired (now (image .entry)) (now (reply .entry))) .verdict) × (now (image .exit) ≡ afterwards (now (image .entry)) [] (repaired (now (image .entry)) (now (reply .entry))) .image) ⌝ }
+{
+    match hearing::judge_reply(image, reply) {
+        Verdict::Refused(r) => Verdict::Refused(r),
+        Verdict::Accepted => {
+            let from = 512 * (1 + at);
+            repair_heard(image, &reply[0..512], &reply[from..])
+        }
+    }
 }

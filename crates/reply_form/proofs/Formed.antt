@@ -17,7 +17,6 @@ use Rattle.meaning.specs.State.{Stored, stored-before}
 use Rattle.meaning.specs.Message.{Reply, clock-formed, ask-formed, reply-formed}
 use Rattle.layout.specs.Clocks.{decode-clock}
 use Rattle.layout.specs.Messages.{decode-ask, decode-reply}
-use Rattle.layout.specs.Calls.{whole-reply}
 use Rattle.arriving.specs.Sent.{points-in}
 use Rattle.reply_form.specs.Parts.{each-formed, each-covered, all-apart, points-formed}
 use Rattle.reply_form.proofs.Points.{points-are}
@@ -36,7 +35,7 @@ of-reply : (t : CrewTable) (r : Reply) → reply-formed t r ≡ (ask-formed t (r
 unfolding reply-formed ask-formed points-formed
 of-reply t r = regroup (is-controller (r .sender)) (is-controller (r .addressee)) (clock-formed t (r .sender) (r .clock)) (every (each-formed t (r .points) ∷ each-covered t (r .clock) (r .points) ∷ ascends? stored-before (r .points) ∷ all-apart (r .points) ∷ []))
 
-module _ (reply : List ℕ) (whole : whole-reply reply ≡ true) where
+module _ (reply : List ℕ) where
   clock-is : decode-reply reply .clock ≡ decode-clock (cut reply 8 96)
   unfolding decode-reply decode-ask block-at
   clock-is = ap decode-clock (cut-cut reply 0 512 8 96 (omega arith))
@@ -51,5 +50,5 @@ module _ (reply : List ℕ) (whole : whole-reply reply ≡ true) where
       record {
         hangs =
             of-reply t (decode-reply reply)
-            ∙ ap₂ _&&_ (head-is t) (ap₂ (points-formed t) clock-is (sym (points-are reply whole)) ∙ sym (and-true (points-formed t (decode-clock (cut reply 8 96)) (points-in (drop 512 reply)))));
+            ∙ ap₂ _&&_ (head-is t) (ap₂ (points-formed t) clock-is (sym (points-are reply)) ∙ sym (and-true (points-formed t (decode-clock (cut reply 8 96)) (points-in (drop 512 reply)))));
       }

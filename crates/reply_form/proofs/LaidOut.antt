@@ -133,7 +133,7 @@ module _ (reply : List ℕ) (whole : whole-reply reply ≡ true) (small : Bytes 
   unfolding encode-reply decode-reply
   encoded =
       ap₂ (λ (n : ℕ) (ps : List Stored). encode-greeting 6 (decode-ask (block-at reply 0) .sender) (decode-ask (block-at reply 0) .addressee) n (decode-ask (block-at reply 0) .clock) ++ encode-points 1 ps)
-      counted (sym (points-are reply whole))
+      counted (sym (points-are reply))
 
   points-tests : same-list (encode-points 1 (points-in rest)) rest ≡ points-laid-out rest
   unfolding test point-laid-out points-laid-out
@@ -165,7 +165,7 @@ module _ (reply : List ℕ) (whole : whole-reply reply ≡ true) (small : Bytes 
     point-ok i l = every-at (length rest / 512) (point-laid-out rest) (and-right head-laid-out (points-laid-out rest) (sym laid-out-by-parts ∙ laid)) i l
 
     near : (i : ℕ) → i < length rest / 512 → 1 + i < 65536
-    near i l = omega (arith, l, count-is reply whole, at-most reply whole)
+    near i l = omega (arith, l, count-is reply, at-most reply whole)
 
     pub laid-point : (i : ℕ) → i < length rest / 512 → Laid lay-point point-block (block-at rest i)
     laid-point i l =

@@ -30,6 +30,16 @@ block-is run i = ap (take 512) (drop-drop (512 * i) 512 run ∙ ap (λ (o : ℕ)
 pub rest-lent : (run : List ℕ) → take (length run - 512) (drop 512 run) ≡ drop 512 run
 rest-lent run = take-all (length run - 512) (drop 512 run) (omega (arith, length-drop 512 run))
 
+-- as many points as there are blocks behind the head
+pub count-is : (run : List ℕ) → length (drop 512 run) / 512 ≡ length run / 512 - 1
+count-is run = omega (arith, length-drop 512 run)
+
+pub points-are : (reply : List ℕ) → points-in (drop 512 reply) ≡ decode-reply reply .points
+unfolding decode-reply
+points-are reply =
+    ap (λ (n : ℕ). upto n (point-of (drop 512 reply))) (count-is reply)
+    ∙ upto-same (length reply / 512 - 1) (point-of (drop 512 reply)) (λ i. point-of reply (1 + i)) (λ i l. ap (decode-stored form-1) (block-is reply i))
+
 module _ (reply : List ℕ) (whole : whole-reply reply ≡ true) where
   pub whole-blocks : length reply % 512 ≡ 0
   unfolding whole-reply
@@ -47,15 +57,6 @@ module _ (reply : List ℕ) (whole : whole-reply reply ≡ true) where
   unfolding whole-reply
   at-most = leb-true (length reply) reply-room (and-right (eqb (length reply % 512) 0 && leb 512 (length reply)) (leb (length reply) reply-room) whole)
 
-  -- as many points as there are blocks behind the head, and nothing behind the last
-  pub count-is : length (drop 512 reply) / 512 ≡ length reply / 512 - 1
-  count-is = omega (arith, length-drop 512 reply, at-least)
-
+  -- nothing stands behind the last block
   pub rest-size : length (drop 512 reply) ≡ 512 * (length (drop 512 reply) / 512)
   rest-size = omega (arith, length-drop 512 reply, whole-blocks, at-least)
-
-  pub points-are : points-in (drop 512 reply) ≡ decode-reply reply .points
-  unfolding decode-reply
-  points-are =
-      ap (λ (n : ℕ). upto n (point-of (drop 512 reply))) count-is
-      ∙ upto-same (length reply / 512 - 1) (point-of (drop 512 reply)) (λ i. point-of reply (1 + i)) (λ i l. ap (decode-stored form-1) (block-is reply i))

@@ -11,7 +11,8 @@ use Rattle.meaning.specs.State.{Stored}
 use Rattle.meaning.specs.Exchange.{both-hold}
 use Rattle.layout.specs.Image.{decode}
 use Rattle.arriving.proofs.OfPoints.{lent-size}
-use Rattle.hearing.proofs.Points.{point-of, point-tested, not-all, each-one}
+use Rattle.reply_form.specs.Parts.{point-of}
+use Rattle.hearing.proofs.Points.{point-tested, not-all, each-one}
 use denote.Ref.{now}
 use native.Mathlib.Omega.{arith}
 use Rattle.hearing.proofs.jobs_held.Statement.{statement}

@@ -15,7 +15,8 @@ use Rattle.layout.specs.Image.{decode}
 use Rattle.arriving.specs.Sent.{points-in}
 use Rattle.arriving.proofs.OfPoints.{lent-size}
 use Rattle.checking.proofs.Looking.{Without, found, not-yet, nowhere}
-use Rattle.hearing.proofs.Points.{point-of, point-tested, lent-laid}
+use Rattle.reply_form.specs.Parts.{point-of}
+use Rattle.hearing.proofs.Points.{point-tested, lent-laid}
 use denote.Ref.{now}
 use native.Mathlib.Omega.{arith}
 use Rattle.hearing.proofs.points_clash.Statement.{statement}

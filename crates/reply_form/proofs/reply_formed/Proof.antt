@@ -31,7 +31,7 @@ ask-formed-requires : tie.Need-ask-formed-requires
 ask-formed-requires c κs = (length-cut (now (c .before .before .before .args .reply)) 0 512 (omega (arith, (at-least (now (c .before .before .before .args .reply)) (c .before .before .before .pre .0)))), c .before .before .before .pre .2)
 
 returns : tie.Need-returns
-returns c = failed (reply-tests (now (c .before .before .before .before .before .args .reply)) (c .before .before .before .before .before .pre .0) (now (c .before .before .before .before .before .args .table))) (said-no (c .before .ask-formed .ensures) (c .if1 .taken))
+returns c = failed (reply-tests (now (c .before .before .before .before .before .args .reply)) (now (c .before .before .before .before .before .args .table))) (said-no (c .before .ask-formed .ensures) (c .if1 .taken))
 
 sub-points-formed : tie.Need-sub-points-formed
 sub-points-formed c = omega (arith, (at-least (now (c .before .before .before .before .before .args .reply)) (c .before .before .before .before .before .pre .0)))
@@ -57,7 +57,7 @@ points-formed-requires c κs = (subst Few (sym (rest-lent (now (c .before .befor
 returns-2 : tie.Need-returns-2
 returns-2 c =
     c .points-formed .ensures ∙ ap (λ (l : List ℕ). points-formed (now (c .before .before .before .before .before .before .before .before .args .table)) (decode-clock (cut (now (c .before .before .before .before .before .before .before .before .args .reply)) 8 96)) (points-in l)) (rest-lent (now (c .before .before .before .before .before .before .before .before .args .reply)))
-    ∙ last-test (passed (reply-tests (now (c .before .before .before .before .before .before .before .before .args .reply)) (c .before .before .before .before .before .before .before .before .pre .0) (now (c .before .before .before .before .before .before .before .before .args .table))) (said-yes (c .before .before .before .before .ask-formed .ensures) (c .before .before .before .if1 .left)))
+    ∙ last-test (passed (reply-tests (now (c .before .before .before .before .before .before .before .before .args .reply)) (now (c .before .before .before .before .before .before .before .before .args .table))) (said-yes (c .before .before .before .before .ask-formed .ensures) (c .before .before .before .if1 .left)))
 
 pub reply-formed-spec : {M : Type 1} → statement M
 reply-formed-spec =
