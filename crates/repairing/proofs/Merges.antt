@@ -73,11 +73,12 @@ module _ (s : State) (G : Good s) (up : ascends? stored-before (s .points) ≡ t
     pub first-pass : (z : State) → z ≡ with-list s 2 (noted s (points-in run)) → Mergeable-pass c z (decode-clock (cut head 8 96)) 0 run ms
     unfolding ls
     first-pass z e =
-        subst (λ (x : State). Mergeable-pass c x k 0 run ms) (sym e)
-        (up,
-        first-joinable s G k c run ms ready up ordered enough marks-of (passed s c (results s k run) judged .0) (passed s c (results s k run) judged .1) ls,
-        first-order s G k c run ms ready up ordered enough marks-of (passed s c (results s k run) judged .0) (passed s c (results s k run) judged .1) ls,
-        first-room s G k c run ms ready up ordered enough marks-of (passed s c (results s k run) judged .0) (passed s c (results s k run) judged .1) ls)
+        subst (λ (x : State). Mergeable-pass c x k 0 run ms) (sym e) (
+          up,
+          first-joinable s G k c run ms ready up ordered enough marks-of (passed s c (results s k run) judged .0) (passed s c (results s k run) judged .1) ls,
+          first-order s G k c run ms ready up ordered enough marks-of (passed s c (results s k run) judged .0) (passed s c (results s k run) judged .1) ls,
+          first-room s G k c run ms ready up ordered enough marks-of (passed s c (results s k run) judged .0) (passed s c (results s k run) judged .1) ls,
+        )
 
     module _ (z₁ z₂ : State) (e₁ : z₁ ≡ with-list s 2 (noted s (points-in run))) (e₂ : z₂ ≡ with-points z₁ (fold (put c) (z₁ .points) (marked 0 (take (length run / 512) ms) (results z₁ (decode-clock (cut head 8 96)) run)))) where
       first-left : z₂ ≡ with-points (with-list s 2 (noted s (points-in run))) (fold (put c) (s .points) (Rattle.numbers.specs.Words.keep (λ r. mathlib.Core.Bool.not (comes c (s .points) r)) (results s k run)))

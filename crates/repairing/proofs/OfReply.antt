@@ -1,9 +1,10 @@
 -- What a reply has that was heard: its results, their order, and the clock and the lists that they leave. Assumes nothing.
 use Prim.Native.Nat.{ℕ, _/_, _<_}
-use mathlib.Core.Path.{_≡_, refl}
+use mathlib.Core.Path.{_≡_, refl, ap, sym, _∙_, subst}
 use mathlib.Core.Bool.{true, false, _&&_, _||_}
 use mathlib.Core.List.{List}
 use lib.ListN.{length}
+use Rattle.numbers.specs.declared.Controller.{Controller}
 use Rattle.numbers.specs.Words.{all?, some?, ascends?}
 use Rattle.numbers.specs.Numbers.{Crew, same-controller}
 use Rattle.numbers.proofs.Tests.{or-false, _∈_}
@@ -14,6 +15,7 @@ use Rattle.refusal.specs.Refusal.{verdict-of}
 use Rattle.block.specs.Block.{block-at}
 use Rattle.block.proofs.Arrays.{upto-in}
 use Rattle.meaning.specs.Object.{fill}
+use Rattle.meaning.specs.Clock.{row, with-row}
 use Rattle.meaning.specs.State.{Stored, stored-before, State}
 use Rattle.meaning.specs.Message.{Reply}
 use Rattle.meaning.specs.Settle.{entered, own-listed, foreign-listed}
@@ -22,16 +24,20 @@ use Rattle.laws.proofs.Answers.{passes, passes-not, accepted-with}
 use Rattle.laws.proofs.Goodness.{Good}
 use Rattle.laws.proofs.Merging.{Clocked, Carried}
 use Rattle.laws.proofs.StaysGood.{other, united-clock}
+use Rattle.row.specs.Row.{sound}
+use Rattle.block.specs.Fields.{cut}
+use Rattle.layout.specs.Clocks.{decode-clock}
+use Rattle.layout.specs.Messages.{decode-ask}
 use Rattle.layout.specs.PointBlock.{form-1, decode-stored}
-use Rattle.arriving.specs.Sent.{with-arrivals}
+use Rattle.arriving.specs.Sent.{points-in, with-arrivals}
 use Rattle.arriving.proofs.Merged.{entered-is}
 use Rattle.noting.specs.Noted.{noted}
 use Rattle.joining.proofs.Noted.{own-kept, foreign-is}
 use Rattle.hearing.specs.Heard.{AllLaid, reply-in, peers-judged}
-use Rattle.hearing.proofs.Filled.{reply-sender, points-ascend, apart-dots, filled-takable, filled-carried}
+use Rattle.hearing.proofs.Filled.{reply-sender, reply-row-sound, points-ascend, apart-dots, filled-takable, filled-carried}
 use Rattle.mending.specs.Mended.{results}
 use Rattle.tallying.specs.Tallied.{AllReady}
-use Rattle.repairing.specs.Repaired.{united, outcome, Heard}
+use Rattle.repairing.specs.Repaired.{united, outcome, clock-after, Heard}
 
 -- what rows 5 to 10 leave of a reply
 pub record Passed (s : State) (q : Reply) : Type 0 where
@@ -110,3 +116,12 @@ module _ (s : State) (G : Good s) (head run : List ℕ) (h : Heard s (reply-in h
 
       may : Rattle.weighing.specs.Weighed.takable s (Rattle.weighing.specs.Weighed.key-in (block-at run i)) (fill (s .table) (decode-stored form-1 (block-at run i) .key .job) (r .clock) (decode-stored form-1 (block-at run i) .object)) ≡ true
       may = filled-takable s r (h .0) (G .own-crew) (F .held) (b .0) (b .1) (F .free) p (upto-in (length run / 512) (λ j. decode-stored form-1 (block-at run j)) i l)
+
+  -- the sender's row about itself, as it is lent
+  pub sender-sound : (n : Controller) → n ≡ reply-in head run .sender → sound (row (decode-clock (cut head 8 96)) n) ≡ true
+  unfolding decode-ask
+  sender-sound n e = subst (λ (m : Controller). sound (row (r .clock) m) ≡ true) (sym e) (reply-row-sound s r (h .0) (r .sender) (reply-sender s r (h .0)))
+
+  pub rows-are : (n : Controller) → n ≡ reply-in head run .sender → with-arrivals s (with-row (s .clock) n (row (decode-clock (cut head 8 96)) n)) (points-in run) ≡ clock-after s (reply-in head run)
+  unfolding decode-ask
+  rows-are n e = ap (λ (m : Controller). with-arrivals s (with-row (s .clock) m (row (r .clock) m)) (points-in run)) e ∙ sym (clock-is s G r h)

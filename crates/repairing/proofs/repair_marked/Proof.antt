@@ -1,6 +1,6 @@
 -- `repairing::repair_marked` meets its contract (Merges, Steps). Assumes nothing.
 use borrow.Author.Needs.{needs}
-use mathlib.Core.Path.{ap, sym, subst, _∙_}
+use mathlib.Core.Path.{ap, sym, _∙_}
 use mathlib.Core.List.{List}
 use mathlib.Core.Bool.{true}
 use Rattle.numbers.specs.Words.{map}
