@@ -1,3 +1,4 @@
 pub mod Asking
 pub mod Replying
 pub mod TakingIn
+pub mod Repairing

@@ -1,4 +1,4 @@
-// The calls with messages: take in, ask, reply. Check, judge, apply: no lent byte is written before every refusal is excluded.
+// The calls with messages: take in, ask, reply, repair. Check, judge, apply: no lent byte is written before every refusal is excluded.
 use opening::Tally;
 use refusal::Verdict;
 ghost use mathlib.Core.Path.{_≡_};
@@ -6,8 +6,8 @@ ghost use Prim.Native.Nat.{_<_};
 ghost use mathlib.Core.Bool.{_&&_};
 ghost use lib.ListN.{length};
 ghost use lib.Dec.{leb};
-ghost use Rattle.layout.specs.Calls.{one-block, reply-room};
-ghost use Rattle.opening.specs.Contracts.{TakesIn, Asks, Replies};
+ghost use Rattle.layout.specs.Calls.{one-block, reply-room, whole-reply};
+ghost use Rattle.opening.specs.Contracts.{TakesIn, Asks, Replies, Repairs};
 
 // ---- taking in
 
@@ -62,5 +62,30 @@ pub fn reply(image: &[u8], message: &[u8], out: &mut [u8]) -> Tally
                 }
             }
         },
+    }
+}
+
+// ---- repairing
+
+// "A reply taken in by repair is 1 to 121 whole blocks."
+fn is_whole(message: &[u8]) -> bool
+    ensures { λ r. ⌜ r ≡ whole-reply (now (message .entry)) ⌝ }
+{
+    let length = message.len();
+    if length % 512 != 0 {
+        return false;
+    }
+    if length < 512 {
+        return false;
+    }
+    length <= 61952
+}
+
+pub fn repair(image: &mut [u8], message: &[u8]) -> Verdict
+    ensures { λ r. ⌜ Repairs (λ v. v) (now (image .entry)) (now (message .entry)) r (now (image .exit)) ⌝ }
+{
+    match opening::opens(image, is_whole(message)) {
+        Verdict::Refused(r) => Verdict::Refused(r),
+        Verdict::Accepted => reading::repair_read(image, message),
     }
 }

@@ -4,7 +4,7 @@ use Prim.Native.Nat.{ℕ}
 use mathlib.Core.Path.{_≡_}
 use mathlib.Core.List.{List}
 use Rattle.refusal.specs.declared.Verdict.{Verdict}
-use Rattle.layout.specs.Calls.{After, start-call, read-call, write-call, delete-call, take-in-call, ask-call, reply-call, strip-pass-call}
+use Rattle.layout.specs.Calls.{After, start-call, read-call, write-call, delete-call, take-in-call, ask-call, reply-call, repair-call, strip-pass-call}
 
 -- the answer and what stands in one buffer
 abbrev pub One : {A : Type 0} → (Verdict → A) → (After → List ℕ) → After → A → List ℕ → Type 0
@@ -38,6 +38,9 @@ Asks told image to out = One told (λ a. a .out) (ask-call image to out)
 
 abbrev pub Replies : {A : Type 0} → (Verdict → A) → List ℕ → List ℕ → List ℕ → A → List ℕ → ℕ → Type 0
 Replies told image message out = Counted told (λ a. a .out) (reply-call image message out)
+
+abbrev pub Repairs : {A : Type 0} → (Verdict → A) → List ℕ → List ℕ → A → List ℕ → Type 0
+Repairs told image message = One told (λ a. a .image) (repair-call image message)
 
 abbrev pub Strips : {A : Type 0} → (Verdict → A) → List ℕ → A → List ℕ → ℕ → Type 0
 Strips told image = Counted told (λ a. a .image) (strip-pass-call image)

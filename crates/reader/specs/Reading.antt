@@ -1,10 +1,8 @@
 -- A reply read one point at a time: how many points it has, and the reader at the start and one point further. Assumes nothing.
 use Prim.Native.Nat.{ℕ, _+_, _-_, _/_}
 use mathlib.Core.List.{List}
-use lib.Dec.{eqb}
-use lib.ListN.{length, getD, set}
+use lib.ListN.{length}
 use denote.Ref.{RefT}
-use Rattle.numbers.specs.Words.{if_then_else_}
 use Rattle.reader.specs.declared.Reader.{Reader}
 
 -- one block is the head, each other one a point
@@ -16,7 +14,3 @@ at-start reply = record { reply = reply; at = 0 }
 
 abbrev pub next-after : Reader → Reader
 next-after r = record { reply = r .reply; at = r .at + 1 }
-
--- the trial: the first byte of the reply, if it has one, at the first place of out
-unfoldable pub first-copied : List ℕ → List ℕ → List ℕ
-first-copied out reply = if eqb (length reply) 0 then out else set out 0 (getD reply 0 0)

@@ -4,7 +4,7 @@ ghost use mathlib.Core.Path.{_≡_};
 ghost use Prim.Native.Nat.{_+_, _*_, _-_, _<_, _≤_};
 ghost use lib.ListN.{length};
 ghost use Rattle.block.specs.Block.{block-at};
-ghost use Rattle.reader.specs.Reading.{points-in, at-start, next-after, first-copied};
+ghost use Rattle.reader.specs.Reading.{points-in, at-start, next-after};
 
 // The lent bytes, and how many points were handed out.
 pub struct Reader<'a> {
@@ -66,31 +66,4 @@ pub fn moved<'a>(r: Reader<'a>) -> Reader<'a>
         reply: r.reply,
         at: r.at + 1,
     }
-}
-
-// A trial of the shape of repair: the work on slices and a number, the reader taken apart for it, and the call with plain slices.
-fn copied(out: &mut [u8], reply: &[u8], at: usize) -> u32
-    requires { ⌜ (0 < length (now out)) × (at < 120) ⌝ }
-    ensures { λ r. ⌜ (r ≡ at) × (now (out .exit) ≡ first-copied (now (out .entry)) (now (reply .entry))) ⌝ }
-{
-    if reply.len() == 0 {
-        return at as u32;
-    }
-    out[0] = reply[0];
-    at as u32
-}
-
-fn bytes_of<'o, 'a>(out: &'o mut [u8], r: Reader<'a>) -> u32
-    requires { ⌜ (0 < length (now out)) × (r .at < 120) ⌝ }
-    ensures { λ n. ⌜ (n ≡ r .entry .at) × (now (out .exit) ≡ first-copied (now (out .entry)) (now (r .entry .reply))) ⌝ }
-{
-    copied(out, r.reply, r.at)
-}
-
-fn copy_first<'o, 'a>(out: &'o mut [u8], reply: &'a [u8]) -> u32
-    requires { ⌜ 0 < length (now out) ⌝ }
-    ensures { λ n. ⌜ (n ≡ 0) × (now (out .exit) ≡ first-copied (now (out .entry)) (now (reply .entry))) ⌝ }
-{
-    let r = new(reply);
-    bytes_of(out, r)
 }

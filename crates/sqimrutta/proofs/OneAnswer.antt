@@ -3,7 +3,7 @@ use Prim.Native.Nat.{ℕ}
 use mathlib.Core.Path.{_≡_, sym, _∙_}
 use mathlib.Core.List.{List}
 use Rattle.refusal.specs.declared.Verdict.{Verdict}
-use Rattle.opening.specs.Contracts.{Starts, Reads, Writes, Deletes, TakesIn, Asks, Replies, Strips}
+use Rattle.opening.specs.Contracts.{Starts, Reads, Writes, Deletes, TakesIn, Asks, Replies, Repairs, Strips}
 
 -- two things that are both a third are one
 module _ {A B C : Type 0} {a r s : A} {b x y : B} {c u v : C} where
@@ -31,6 +31,9 @@ module _ {A : Type 0} (told : Verdict → A) {r s : A} where
 
   pub reply-once : (image message out : List ℕ) {x y : List ℕ} {m n : ℕ} → Replies told image message out r x m → Replies told image message out s y n → (r ≡ s) × (x ≡ y) × (m ≡ n)
   reply-once image message out p q = one p q
+
+  pub repair-once : (image message : List ℕ) {x y : List ℕ} → Repairs told image message r x → Repairs told image message s y → (r ≡ s) × (x ≡ y)
+  repair-once image message p q = let e = one (p .0, p .1, p .1) (q .0, q .1, q .1) in (e .0, e .1)
 
   pub strip-pass-once : (image : List ℕ) {x y : List ℕ} {m n : ℕ} → Strips told image r x m → Strips told image s y n → (r ≡ s) × (x ≡ y) × (m ≡ n)
   strip-pass-once image p q = one p q

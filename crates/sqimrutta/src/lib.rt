@@ -3,7 +3,7 @@ ghost use mathlib.Core.Path.{_≡_};
 ghost use Rattle.numbers.specs.Words.{if_then_else_};
 ghost use Rattle.refusal.specs.Refusal.{answer-number};
 ghost use Rattle.layout.specs.Image.{goodImage};
-ghost use Rattle.opening.specs.Contracts.{Starts, Reads, Writes, Deletes, TakesIn, Asks, Replies, Strips};
+ghost use Rattle.opening.specs.Contracts.{Starts, Reads, Writes, Deletes, TakesIn, Asks, Replies, Repairs, Strips};
 
 // For C: a slice is a pointer and a size_t. "An accepted call returns 0", a refused one the refusal's number.
 #[no_mangle]
@@ -85,6 +85,13 @@ pub extern "C" fn sqimrutta_reply(
     *count = replied.count;
     let v = replied.verdict;
     v.number()
+}
+
+#[no_mangle]
+pub extern "C" fn sqimrutta_repair(image: &mut [u8], message: &[u8]) -> u32
+    ensures { λ r. ⌜ Repairs answer-number (now (image .entry)) (now (message .entry)) r (now (image .exit)) ⌝ }
+{
+    message_calls::repair(image, message).number()
 }
 
 #[no_mangle]
