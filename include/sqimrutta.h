@@ -98,6 +98,13 @@ uint32_t sqimrutta_ask(const uint8_t *image, size_t image_len, uint8_t to, uint8
  * Refusals 1, 2, 3, 4, 6, 9. */
 uint32_t sqimrutta_reply(const uint8_t *image, size_t image_len, const uint8_t *ask, size_t ask_len, uint8_t *out, size_t out_len, uint32_t *count);
 
+/* Repairs this image from the reply that came in `reply`, whole blocks, 1 to 121 of them (`reply_len` is 512 * (1 + points)). All that its sender had of the
+ * points in it is merged with what is here, the row that tells what the sender itself has written is closed as far as the sender's, and dots that all
+ * peers are known to have leave the lists, which makes room for own writes again (refusal 14). It may be lost, come again, or come late. Only a reply to
+ * an ask of this handheld is taken (6). Store the image to flash afterwards. 9 says that this image is an old copy of itself, which must not go on; after
+ * 13 delete points that are not needed. Refusals 1, 2, 3, 4, 5, 6, 9, 10, 11, 12, 13. */
+uint32_t sqimrutta_repair(uint8_t *image, size_t image_len, const uint8_t *reply, size_t reply_len);
+
 /* Frees what is known by now; changes no reading. `*count` is the number of records gone, 0 where it is refused. Refusals 1, 2. */
 uint32_t sqimrutta_strip_pass(uint8_t *image, size_t image_len, uint32_t *count);
 

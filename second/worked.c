@@ -1,4 +1,4 @@
-/* Document 01's worked examples K2 to K9 and K12 and its limits, through the exported C functions. What must come is written out below, byte
+/* Document 01's worked examples K2 to K12 and its limits, through the exported C functions. What must come is written out below, byte
  * by byte, from document 01: it is neither the second program's nor the library's. Only the checks of blocks are computed here, and
  * that rule is held against K1. For each example the answers are compared, and the message, the whole image and the reading in the
  * end; of a refused call, that no lent byte has changed.
@@ -7,8 +7,7 @@
  *
  * Whole images and messages of the same examples as the second program makes them: replay.c, whose streams begin with K5 to K12.
  *
- * Left for later, since they need repair: K10 and K11, which go on from K9 at controller 2. Refusal 13 is not here: own writes reach 60
- * listed dots before 64 stored points.
+ * Refusal 13 is not here: own writes reach 60 listed dots before 64 stored points.
  *
  * Exit: 0 all as written, 1 a difference. */
 
@@ -173,6 +172,41 @@ static uint32_t take_in(const uint8_t *bare) {
     remember();
     uint32_t answer = sqimrutta_take_in(lent.image, told.image, message, BLOCK);
     block_is("the message lent to take_in", message, bare);
+    return answer;
+}
+
+/* The ask to that peer is left in lent.out. */
+static uint32_t ask(uint8_t to) {
+    remember();
+    return sqimrutta_ask(lent.image, told.image, to, lent.out, told.out);
+}
+
+/* A reply to this ask, which comes by radio, in a buffer of its own; the blocks written are told by `sent`. */
+static uint8_t replied[SQIMRUTTA_REPLY];
+static uint32_t sent;
+static uint32_t reply(const uint8_t *bare) {
+    uint8_t message[BLOCK];
+    memcpy(message, bare, BARE);
+    seal(message);
+    memset(replied, 0x55, sizeof replied);
+    sent = 0xdeadbeef;
+    remember();
+    uint32_t answer = sqimrutta_reply(lent.image, told.image, message, BLOCK, replied, sizeof replied, &sent);
+    block_is("the ask lent to reply", message, bare);
+    return answer;
+}
+
+/* These blocks, with their checks, come by radio as a reply. */
+static uint32_t repair(const bare_block *blocks, size_t count) {
+    static uint8_t message[SQIMRUTTA_REPLY];
+    for (size_t i = 0; i < count; i++) {
+        memcpy(message + i * BLOCK, blocks[i], BARE);
+        seal(message + i * BLOCK);
+    }
+    remember();
+    uint32_t answer = sqimrutta_repair(lent.image, told.image, message, count * BLOCK);
+    for (size_t i = 0; i < count; i++)
+        block_is("a block lent to repair", message + i * BLOCK, blocks[i]);
     return answer;
 }
 
@@ -397,6 +431,82 @@ static void k4(void) {
     static const bare_block message = {4, 1, 0, 0, 0, 1, 7, 0, [8] = 68, [40] = 1, 0, 0, 0, 68, 0, 0, 0, [296] = 1};
     lay(row_base_3, COUNT(row_base_3));
     refused("take_in", take_in(message), 11);
+}
+
+/* "Controller 2 took in 1.1, missed that deletion, asks: the reply has point 7 with no version. After repair 2 has no record, row 1 base 2." Controller 1 is
+ * that of K9; what it knows of 2 and of itself is then in 2's watermark, and both know 1.1, so that it leaves 2's list. K11: "The message of 1.1 comes
+ * again: still none." */
+static const bare_block k10_first = {4, 1, 0, 0, 0, 1, 7, 0, [8] = 1, [40] = 1, 1, 0, 0, 1, 0, 0, 0, 'a', [296] = 1};
+static const bare_block k10_ask = {5, 1, 0, 0, 2, 1, 0, 0, [8] = 1};
+static const bare_block k10_reply[] = {
+    {6, 1, 0, 0, 1, 2, 1, 0, [8] = 2},
+    {3, 1, 1, 0, 0, 0, 7, 0},
+};
+static const bare_block k10_repaired[] = {
+    {1, 1, 0, 0, 2, [8] = 3, [16] = 2, [112] = 2, [144] = 2},
+    {2, 1, 1, 0},
+    {2, 1, 2, 0},
+};
+static const bare_block k10_reading = {7, 1, 0, 0, 0, 0, 7, 0, [8] = 2, [296] = 2};
+
+static void k10_as_far_as_the_ask(void) {
+    static const bare_block taken_in[] = {
+        {1, 1, 0, 0, 2, [8] = 3, [16] = 1},
+        {2, 1, 1, 0},
+        {2, 1, 2, 0, 1, 0, [8] = 1, 0, 7, 0, 1, 0, 0, 0},
+        {3, 1, 3, 0, 0, 1, 7, 0, [40] = 1, 1, 0, 0, 1, 0, 0, 0, 'a'},
+    };
+    fresh_controller(2);
+    accepted("take_in of 1.1", take_in(k10_first));
+    image_is(taken_in, COUNT(taken_in));
+    accepted("ask", ask(1));
+    message_is(k10_ask);
+    image_is(taken_in, COUNT(taken_in));
+}
+
+static void k10(void) {
+    /* controller 1, as in K9 */
+    fresh();
+    accepted("write", write_point(0, 7, "a"));
+    give(1, 1);
+    accepted("delete", delete_point(0, 7));
+    accepted("reply", reply(k10_ask));
+    kept_image();
+    number_is("the points sent", sent, 1);
+    for (size_t i = 0; i < COUNT(k10_reply); i++)
+        block_is("a block of the reply", replied + i * BLOCK, k10_reply[i]);
+    for (size_t i = COUNT(k10_reply) * BLOCK; i < sizeof replied; i++)
+        number_is("the rest of the reply's buffer", replied[i], 0x55);
+
+    k10_as_far_as_the_ask();
+    accepted("repair", repair(k10_reply, COUNT(k10_reply)));
+    image_is(k10_repaired, COUNT(k10_repaired));
+    reading_is(k10_reading);
+    nothing_to_strip();
+}
+
+static void k11(void) {
+    k10_as_far_as_the_ask();
+    accepted("repair", repair(k10_reply, COUNT(k10_reply)));
+    accepted("take_in of 1.1 again", take_in(k10_first));
+    image_is(k10_repaired, COUNT(k10_repaired));
+    reading_is(k10_reading);
+    accepted("repair again", repair(k10_reply, COUNT(k10_reply)));
+    image_is(k10_repaired, COUNT(k10_repaired));
+}
+
+/* A reply to controller 3 is none of ours: refusal 6, and no lent byte changes. So is one from a controller that is no peer. */
+static void replies_of_others(void) {
+    static const bare_block to_another[] = {
+        {6, 1, 0, 0, 1, 3, 1, 0, [8] = 2},
+        {3, 1, 1, 0, 0, 0, 7, 0},
+    };
+    static const bare_block from_no_peer[] = {
+        {6, 1, 0, 0, 3, 2, 0, 0},
+    };
+    k10_as_far_as_the_ask();
+    refused("repair by a reply to another", repair(to_another, COUNT(to_another)), 6);
+    refused("repair by a reply of no peer", repair(from_no_peer, COUNT(from_no_peer)), 6);
 }
 
 /* "The deletion 1.2 reaches a fresh 2 first: row 1 has base 0, bits 2. Then 1.1 arrives: nothing is shown and the row stays." */
@@ -743,7 +853,10 @@ int main(void) {
         {"K7", k7},
         {"K8", k8},
         {"K9", k9},
+        {"K10", k10},
+        {"K11", k11},
         {"K12", k12},
+        {"replies of others", replies_of_others},
         {"eight writes and the ninth", eight_writes},
         {"sixty writes and the sixty-first", sixty_writes},
         {"sixty points and the sixty-first", sixty_points},
