@@ -1,0 +1,3 @@
+pub mod Moment
+pub mod Run
+pub mod Demand
