@@ -1,0 +1,9 @@
+pub mod Called
+pub mod Pictured
+pub mod Followed
+pub mod Reading
+pub mod ShownBytes
+pub mod Saying
+pub mod OwnImages
+pub mod AlarmsBytes
+pub mod Realised
