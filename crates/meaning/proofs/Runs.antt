@@ -225,3 +225,20 @@ between-jobs = do
 not-beyond : between-jobs ≡ accepted (1, (1, 0, 1, true))
 unfolding everything
 not-beyond = refl
+
+-- "The sender's row about itself is united with ours": no other row of it. Controller 3 writes twice, and controller 2 has both; its reply to controller 1 carries
+-- what stands, 3.2. So controller 1 has seen 3.2 and no more of 3: what else 3 wrote may be on its way to it
+abbrev others-row : Answer Row
+others-row = do
+  three ← start (controller 3) three-hold
+  two ← start (controller 2) three-hold
+  two ← told 2 three two
+  first ← start (controller 1) three-hold
+  q ← ask first (controller 2)
+  r ← reply two q
+  first ← repair first (r .message)
+  accepted (row (first .clock) (controller 3))
+
+not-united : others-row ≡ accepted (record { base = 0; bits = 2 })
+unfolding everything
+not-united = refl
