@@ -164,12 +164,12 @@ just-fits = refl
 -- ---- further runs
 
 -- n writes of point 7 by controller 3, each of which covers all before it; controller 2 takes each in
-abbrev told : ℕ → State → State → Answer State
-told zero three two = accepted two
-told (suc n) three two = do
+abbrev tells : ℕ → State → State → Answer (State × State)
+tells zero three two = accepted (three, two)
+tells (suc n) three two = do
   d ← write three p7 text (counter 0 ∷ counter 0 ∷ counter (own-base three) ∷ counter 0 ∷ counter 0 ∷ counter 0 ∷ counter 0 ∷ counter 0 ∷ [])
   two ← take-in two (d .message)
-  told n (d .state) two
+  tells n (d .state) two
 
 -- controller 2 lists fifty dots of controller 1, which controller 3 may lack; of eleven more dots there is room for ten
 abbrev listing : Answer Count
@@ -181,8 +181,8 @@ listing = do
   r ← reply writer q
   two ← repair two (r .message)
   three ← start (controller 3) three-hold
-  two ← told 11 three two
-  counted two
+  both ← tells 11 three two
+  counted (both .1)
 
 sixty-foreign : listing ≡ accepted (50, 0, 60, true)
 unfolding everything
@@ -226,19 +226,27 @@ not-beyond : between-jobs ≡ accepted (1, (1, 0, 1, true))
 unfolding everything
 not-beyond = refl
 
--- "The sender's row about itself is united with ours": no other row of it. Controller 3 writes twice, and controller 2 has both; its reply to controller 1 carries
--- what stands, 3.2. So controller 1 has seen 3.2 and no more of 3: what else 3 wrote may be on its way to it
-abbrev others-row : Answer Row
-others-row = do
-  three ← start (controller 3) three-hold
+-- "The sender's row about itself is united with ours": no other row of it. Controller 2 lists sixty foreign dots, ten of controller 3's, and has no room for 3.11; so its reply to
+-- controller 1 does not carry that point. The message of 3.11 comes late to controller 1, which then shows it: its row 3 was not closed
+abbrev late-write : Answer (List Version)
+late-write = do
+  fresh ← start (controller 1) three-hold
+  first ← spread 50 fresh
   two ← start (controller 2) three-hold
-  two ← told 2 three two
-  first ← start (controller 1) three-hold
+  q ← ask two (controller 1)
+  r ← reply first q
+  two ← repair two (r .message)
+  three ← start (controller 3) three-hold
+  both ← tells 10 three two
+  d ← write (both .0) (key 0 60) text no-context
+  two ← take-in (both .1) (d .message)
   q ← ask first (controller 2)
   r ← reply two q
   first ← repair first (r .message)
-  accepted (row (first .clock) (controller 3))
+  first ← take-in first (d .message)
+  o ← read first (key 0 60)
+  accepted (o .object .versions)
 
-not-united : others-row ≡ accepted (record { base = 0; bits = 2 })
+late-write-shown : late-write ≡ accepted (record { dot = dot 3 11; contents = value text } ∷ [])
 unfolding everything
-not-united = refl
+late-write-shown = refl
