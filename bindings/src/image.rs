@@ -13,7 +13,7 @@ use core::fmt;
 ///
 /// Jobs are 0..7, points 1..65535, controllers 1..8. Numbers outside are refused with 5.
 #[derive(Clone, PartialEq, Eq)]
-pub struct Image(Box<[u8; IMAGE]>);
+pub struct Image(Box<[u8]>);
 
 impl Image {
     /// A fresh image for the controller `number` with the crew's table: a byte for each job, whose bit n-1 says that controller n holds it. A number is
@@ -30,8 +30,9 @@ impl Image {
     /// # Ok::<(), Refusal>(())
     /// ```
     pub fn start(number: u8, table: &[u8; TABLE]) -> Result<Image, Refusal> {
-        let mut image = Image(Box::new([0; IMAGE]));
-        raw::start(&mut *image.0, number, table)?;
+        // Made in place, since an array of this size would go over the stack.
+        let mut image = Image(vec![0; IMAGE].into_boxed_slice());
+        raw::start(&mut image.0, number, table)?;
         Ok(image)
     }
 
@@ -48,18 +49,20 @@ impl Image {
     /// # Ok::<(), Refusal>(())
     /// ```
     pub fn from_bytes(bytes: &[u8]) -> Result<Image, Refusal> {
-        let bytes: &[u8; IMAGE] = bytes.try_into().map_err(|_| Refusal::WrongLength)?;
-        Ok(Image(Box::new(*bytes)))
+        if bytes.len() != IMAGE {
+            return Err(Refusal::WrongLength);
+        }
+        Ok(Image(bytes.into()))
     }
 
-    /// The bytes to store.
+    /// The bytes to store, [`IMAGE`] of them.
     ///
     /// ```
     /// let image = sqimrutta::Image::start(1, &[1, 0, 0, 0, 0, 0, 0, 0])?;
     /// assert_eq!(image.as_bytes().len(), 34_304);
     /// # Ok::<(), sqimrutta::Refusal>(())
     /// ```
-    pub fn as_bytes(&self) -> &[u8; IMAGE] {
+    pub fn as_bytes(&self) -> &[u8] {
         &self.0
     }
 
@@ -76,7 +79,7 @@ impl Image {
     /// # Ok::<(), Refusal>(())
     /// ```
     pub fn good(&self) -> bool {
-        raw::good(&*self.0)
+        raw::good(&self.0)
     }
 
     /// What a point shows. Refusals 2, 5.
@@ -96,7 +99,7 @@ impl Image {
     /// ```
     pub fn read(&self, job: u8, point: u16) -> Result<Reading, Refusal> {
         let mut block = [0; BLOCK];
-        raw::read(&*self.0, job, point, &mut block)?;
+        raw::read(&self.0, job, point, &mut block)?;
         Ok(Reading::decode(&block))
     }
 
@@ -120,7 +123,7 @@ impl Image {
     /// ```
     pub fn write(&mut self, job: u8, point: u16, value: &[u8], context: &Context) -> Result<Outgoing, Refusal> {
         let mut block = [0; BLOCK];
-        raw::write(&mut *self.0, job, point, value, context.counters(), &mut block)?;
+        raw::write(&mut self.0, job, point, value, context.counters(), &mut block)?;
         Ok(Outgoing::from_bytes(&block))
     }
 
@@ -139,7 +142,7 @@ impl Image {
     /// ```
     pub fn delete(&mut self, job: u8, point: u16, context: &Context) -> Result<Outgoing, Refusal> {
         let mut block = [0; BLOCK];
-        raw::delete(&mut *self.0, job, point, context.counters(), &mut block)?;
+        raw::delete(&mut self.0, job, point, context.counters(), &mut block)?;
         Ok(Outgoing::from_bytes(&block))
     }
 
@@ -162,7 +165,7 @@ impl Image {
     /// # Ok::<(), Refusal>(())
     /// ```
     pub fn take_in(&mut self, message: &Outgoing) -> Result<(), Refusal> {
-        raw::take_in(&mut *self.0, message.as_bytes())
+        raw::take_in(&mut self.0, message.as_bytes())
     }
 
     /// Asks the peer `to` for what is lacking here: a message to that peer alone. Refusals 2, 5, 6.
@@ -179,7 +182,7 @@ impl Image {
     /// ```
     pub fn ask(&self, to: u8) -> Result<Ask, Refusal> {
         let mut block = [0; BLOCK];
-        raw::ask(&*self.0, to, &mut block)?;
+        raw::ask(&self.0, to, &mut block)?;
         Ok(Ask::from_bytes(&block))
     }
 
@@ -202,7 +205,7 @@ impl Image {
     /// ```
     pub fn reply(&self, ask: &Ask) -> Result<Reply, Refusal> {
         let mut buffer = vec![0; REPLY];
-        let points = raw::reply(&*self.0, ask.as_bytes(), &mut buffer)?;
+        let points = raw::reply(&self.0, ask.as_bytes(), &mut buffer)?;
         Ok(Reply::in_buffer(buffer, points))
     }
 
@@ -224,7 +227,7 @@ impl Image {
     /// # Ok::<(), sqimrutta::Refusal>(())
     /// ```
     pub fn repair(&mut self, reply: &Reply) -> Result<(), Refusal> {
-        raw::repair(&mut *self.0, reply.as_bytes())
+        raw::repair(&mut self.0, reply.as_bytes())
     }
 
     /// Frees what is known by now and changes no reading. The number of records gone comes back. Refusal 2.
@@ -245,13 +248,13 @@ impl Image {
     /// # Ok::<(), sqimrutta::Refusal>(())
     /// ```
     pub fn strip_pass(&mut self) -> Result<u32, Refusal> {
-        raw::strip_pass(&mut *self.0)
+        raw::strip_pass(&mut self.0)
     }
 }
 
 impl AsRef<[u8]> for Image {
     fn as_ref(&self) -> &[u8] {
-        &*self.0
+        self.as_bytes()
     }
 }
 

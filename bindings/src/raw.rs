@@ -96,7 +96,7 @@ pub fn write(
     answer(ffi::write(image, job, point, value, context, out))
 }
 
-/// Deletes what was seen of a point; `context` and `out` are as for [`write`]. Refusals 1, 2, 5, 8, 12, 14, 15.
+/// Deletes what was seen of a point; `context` and `out` are as for [`write()`]. Refusals 1, 2, 5, 8, 12, 14, 15.
 ///
 /// ```
 /// use sqimrutta::{raw, Reading};
