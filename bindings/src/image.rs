@@ -146,8 +146,8 @@ impl Image {
         Ok(Outgoing::from_bytes(&block))
     }
 
-    /// Takes in the message of another's write or deletion. It may have been lost, come again, late or out of order, and changes no reading that it should
-    /// not. After refusal 11 ask the sender; after 9 this image must not go on. Refusals 1, 2, 3, 4, 5, 6, 9, 10, 11, 12, 13.
+    /// Takes in the message of another's write or deletion. It may come again, late or out of order, and changes no reading that it should not; one that is
+    /// lost comes by a repair. After refusal 11 ask the sender; after 9 this image must not go on. Refusals 1, 2, 3, 4, 5, 6, 9, 10, 11, 12, 13.
     ///
     /// ```
     /// use sqimrutta::{Context, Image, Refusal};
