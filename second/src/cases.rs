@@ -102,7 +102,7 @@ impl<W: Write> Maker<'_, W> {
         Ok(())
     }
 
-    /// K5 to K12, and the eight and sixty writes.
+    /// K5 to K12, the eight and sixty writes, and the longest reply.
     fn examples(&mut self) -> io::Result<()> {
         let table = [3, 0, 0, 0, 0, 0, 0, 0];
         let (one, two) = (Controller::new(1).expect("1"), Controller::new(2).expect("2"));
@@ -145,6 +145,33 @@ impl<W: Write> Maker<'_, W> {
         self.start(one, &table)?;
         for counter in 0..61 {
             self.write(one, point, Some(&[7; 24]), &context(1, counter), slot::MESSAGES)?;
+        }
+        self.longest_reply()
+    }
+
+    /// Replies of 120 points: both lists full, each dot with a point of its own. They are deletions of points without record, of which any number
+    /// fits an image. What 1 knows of 3 is more than 2 has heard, so each point that 3 could write to gets a record at 2 that says so: where that is
+    /// all 120, there is no place for them; where it is 60, the repair is accepted. Then replies of fewer points and of none.
+    fn longest_reply(&mut self) -> io::Result<()> {
+        let [one, two, three] = [1, 2, 3].map(|n| Controller::new(n).expect("in range"));
+        for (name, jobs, job_of_three) in [("a reply of 120 points, too many", [7, 0], 0), ("a reply of 120 points", [3, 7], 1)] {
+            self.recorder.label(name)?;
+            let table = [jobs[0], jobs[1], 0, 0, 0, 0, 0, 0];
+            for n in [one, two, three] {
+                self.start(n, &table)?;
+            }
+            for number in 1..=60 {
+                let ours = Point::new(0, number).expect("in range");
+                let theirs = Point::new(job_of_three, 60 + number).expect("in range");
+                self.write(three, theirs, None, &[0; EIGHT], slot::MESSAGES)?;
+                self.take_in(one, slot::MESSAGES)?;
+                self.write(one, ours, None, &[0; EIGHT], slot::MESSAGES)?;
+            }
+            for (asked, asks) in [(one, two), (three, two), (one, two), (one, three), (three, one), (two, one), (one, two)] {
+                self.ask(asks, asked.number(), slot::ASKS)?;
+                self.reply(asked, slot::ASKS, slot::REPLIES)?;
+                self.repair(asks, slot::REPLIES)?;
+            }
         }
         Ok(())
     }
