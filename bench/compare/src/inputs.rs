@@ -2,7 +2,7 @@
 //! and for both programs. Every call on them is accepted.
 //!
 //! - empty: a fresh image of handheld 1 in a crew of four;
-//! - typical: 20 points of 1 to 3 versions, two of them deleted, 5 own and 13 foreign listed dots, one of a point without a record;
+//! - typical: 20 points of 1 to 3 versions, 29 in all, two points deleted, 5 own and 13 foreign listed dots, one of a point without a record;
 //! - full: 64 points of 8 versions of 24 bytes, four of them deleted eight times, 60 own and 60 foreign listed dots. A write or delete
 //!   on 60 own dots is refused (14), so these two get the same image with 59.
 
@@ -249,4 +249,52 @@ pub fn case(name: Name, size: Size) -> Case {
     }
     case.image = bytes;
     case
+}
+
+#[cfg(test)]
+mod tests {
+    use super::*;
+    use crate::case::Maker;
+
+    fn shape(bytes: &[u8]) -> (usize, usize, usize, usize) {
+        let state = image::decode(bytes).expect("a good image");
+        let versions = state.points.values().map(|object| object.versions.len()).sum();
+        (state.points.len(), versions, state.own_dots.len(), state.foreign_dots.len())
+    }
+
+    #[test]
+    fn the_images_are_as_they_are_said_to_be() {
+        assert_eq!(shape(&image_of(Size::Empty)), (0, 0, 0, 0));
+        assert_eq!(shape(&image_of(Size::Typical)), (20, 29, 5, 13));
+        assert_eq!(shape(&image_of(Size::Full)), (64, 512, 60, 60));
+    }
+
+    /// What a call leaves of a full image: still eight versions of every point, so nothing is measured on less.
+    #[test]
+    fn a_full_image_stays_full() {
+        for (name, own_dots) in [(Name::Write, 60), (Name::Delete, 60), (Name::TakeIn, 60)] {
+            let mut case = case(name, Size::Full);
+            let before = case.image.clone();
+            assert_eq!(case.make(Maker::Second).0, 0);
+            assert_eq!(shape(&case.image), (64, 512, own_dots, 60));
+            assert!(before != case.image);
+        }
+        let mut case = case(Name::Repair, Size::Full);
+        assert_eq!(case.make(Maker::Second).0, 0);
+        let (points, versions, _, _) = shape(&case.image);
+        assert_eq!((points, versions, case.input.len()), (64, 512, 61 * BLOCK));
+    }
+
+    #[test]
+    fn messages_bring_versions() {
+        let clock = |bytes: &[u8]| image::decode(bytes).expect("a good image").clock;
+        for size in [Size::Empty, Size::Typical, Size::Full] {
+            for name in [Name::TakeIn, Name::Repair] {
+                let mut case = case(name, size);
+                let before = clock(&case.image);
+                assert_eq!(case.make(Maker::Second).0, 0);
+                assert!(clock(&case.image) != before);
+            }
+        }
+    }
 }
