@@ -4,6 +4,9 @@
 //! empty, typical or full (src/inputs.rs). Both programs' answers and bytes are compared first. Then the call is made once in
 //! `measured_call`, which `valgrind --tool=callgrind --toggle-collect=measured_call` counts alone; or, with `times N`, N times by the clock, and the
 //! median is printed, in nanoseconds.
+//!
+//! compare both CALL SIZE times N: library and second program in turns, N times each, and both medians. What slows the machine down for a while
+//! then slows both.
 
 mod case;
 mod inputs;
@@ -46,6 +49,7 @@ const SIZES: [(&str, Size); 3] = [("empty", Size::Empty), ("typical", Size::Typi
 
 fn usage() -> ! {
     eprintln!("usage: compare library|second|checks|checks-unrolled CALL empty|typical|full [times N]");
+    eprintln!("       compare both CALL empty|typical|full times N");
     exit(2)
 }
 
@@ -71,39 +75,58 @@ fn same(case: &Case) -> u32 {
     answers.0 .1
 }
 
+/// Each makes the call that many times, in turns, each time on the same bytes: the median of its times, in nanoseconds.
+fn medians<const MANY: usize>(case: &Case, makers: [Maker; MANY], times: usize) -> [u128; MANY] {
+    let mut copy = case.clone();
+    let mut answer = (0, 0);
+    let mut taken = [const { Vec::new() }; MANY];
+    for _ in 0..times {
+        for (maker, taken) in makers.into_iter().zip(&mut taken) {
+            copy.restore(case);
+            let start = Instant::now();
+            measured_call(black_box(&mut copy), black_box(maker), &mut answer);
+            taken.push(start.elapsed().as_nanos());
+        }
+    }
+    taken.map(|mut taken| {
+        taken.sort_unstable();
+        taken[times / 2]
+    })
+}
+
+fn number(word: &str) -> usize {
+    word.parse().ok().filter(|number| *number > 0).unwrap_or_else(|| usage())
+}
+
 fn main() {
     let words: Vec<String> = env::args().skip(1).collect();
     let words: Vec<&str> = words.iter().map(String::as_str).collect();
+    if let ["both", name, size, "times", many] = words[..] {
+        let case = inputs::case(named(name, &NAMES), named(size, &SIZES));
+        same(&case);
+        let [library, second] = medians(&case, [Maker::Library, Maker::Second], number(many));
+        println!("{library} {second}");
+        return;
+    }
     let (maker, name, size, times) = match words[..] {
         [maker, name, size] => (maker, name, size, None),
-        [maker, name, size, "times", many] => {
-            (maker, name, size, Some(many.parse::<usize>().unwrap_or_else(|_| usage())))
-        }
+        [maker, name, size, "times", many] => (maker, name, size, Some(number(many))),
         _ => usage(),
     };
     let (maker, name, size) = (named(maker, &MAKERS), named(name, &NAMES), named(size, &SIZES));
     let bare = matches!(maker, Maker::Checks | Maker::ChecksUnrolled);
-    if bare && name != Name::Good || times == Some(0) {
+    if bare && name != Name::Good {
         usage();
     }
     let case = inputs::case(name, size);
     let count = same(&case);
-    let mut copy = case.clone();
-    let mut answer = (0, 0);
     let Some(times) = times else {
+        let mut copy = case.clone();
+        let mut answer = (0, 0);
         measured_call(black_box(&mut copy), black_box(maker), &mut answer);
         println!("answer {}, count {}, input of {} bytes", answer.0, answer.1, case.input.len());
         assert!(bare || answer == (0, count));
         return;
     };
-    let mut taken: Vec<u128> = (0..times)
-        .map(|_| {
-            copy.restore(&case);
-            let start = Instant::now();
-            measured_call(black_box(&mut copy), black_box(maker), &mut answer);
-            start.elapsed().as_nanos()
-        })
-        .collect();
-    taken.sort_unstable();
-    println!("{}", taken[times / 2]);
+    println!("{}", medians(&case, [maker], times)[0]);
 }
