@@ -49,7 +49,10 @@ static void read_base(const struct handheld *h, uint8_t *reading) {
     look_at("read", sqimrutta_read(h->image, SQIMRUTTA_IMAGE, JOB, BASE, reading, SQIMRUTTA_BLOCK));
 }
 
-static void context_of(const uint8_t *reading, uint32_t *context) {
+/* What the user has seen who looks at the base on h now. */
+static void context_seen(const struct handheld *h, uint32_t *context) {
+    uint8_t reading[SQIMRUTTA_BLOCK];
+    read_base(h, reading);
     for (int n = 0; n < SQIMRUTTA_CONTEXT; n++)
         context[n] = counter_at(reading, 8 + 4 * n);
 }
@@ -101,20 +104,16 @@ static void start(struct handheld *h, uint8_t number) {
 
 /* The user of h sets the base to `value`, having seen what h shows now. */
 static void set_base(struct handheld *h, const char *value, struct message *m) {
-    uint8_t reading[SQIMRUTTA_BLOCK];
     uint32_t context[SQIMRUTTA_CONTEXT];
-    read_base(h, reading);
-    context_of(reading, context);
+    context_seen(h, context);
     m->length = SQIMRUTTA_BLOCK;
     look_at("write", sqimrutta_write(h->image, SQIMRUTTA_IMAGE, JOB, BASE, (const uint8_t *)value, strlen(value), context, SQIMRUTTA_CONTEXT, m->bytes,
                                      SQIMRUTTA_BLOCK));
 }
 
 static void delete_base(struct handheld *h, struct message *m) {
-    uint8_t reading[SQIMRUTTA_BLOCK];
     uint32_t context[SQIMRUTTA_CONTEXT];
-    read_base(h, reading);
-    context_of(reading, context);
+    context_seen(h, context);
     m->length = SQIMRUTTA_BLOCK;
     look_at("delete", sqimrutta_delete(h->image, SQIMRUTTA_IMAGE, JOB, BASE, context, SQIMRUTTA_CONTEXT, m->bytes, SQIMRUTTA_BLOCK));
 }
