@@ -1,32 +1,24 @@
 -- What an accepted reply has passed, and what is then made of a repair. Assumes nothing.
 use Prim.Native.Nat.{ℕ}
-use mathlib.Core.Path.{_≡_, refl, sym, _∙_}
+use mathlib.Core.Path.{_≡_, refl, _∙_}
 use mathlib.Core.Bool.{Bool, true, false, _&&_, _||_, not}
 use mathlib.Core.List.{List}
-use lib.ListN.{drop}
 use Rattle.numbers.specs.Words.{all?, some?, map}
 use Rattle.numbers.specs.Numbers.{same-controller}
-use Rattle.numbers.proofs.Tests.{and-left, and-right, or-false, _∈_}
-use Rattle.numbers.proofs.Controllers.{Crew}
+use Rattle.numbers.proofs.Tests.{and-left, and-right, or-false}
 use Rattle.refusal.specs.declared.Verdict.the-variants.{Accepted, Refused}
 use Rattle.refusal.specs.declared.Refusal.{Refusal}
 use Rattle.refusal.specs.declared.Refusal.the-variants.{WrongCheck, IllFormed, OutOfRange, NotPeer, HistoryLost, DotClash}
 use Rattle.refusal.specs.Refusal.{Answer, refused, accepted, refuse_when_else_, _>>=_, verdict-of}
 use Rattle.meaning.specs.Clock.{row, with-row}
-use Rattle.meaning.specs.Object.{Version, fill}
-use Rattle.meaning.specs.State.{Stored, State}
+use Rattle.meaning.specs.State.{State}
 use Rattle.meaning.specs.Settle.{settle}
 use Rattle.meaning.specs.Message.{Reply, reply-formed}
 use Rattle.meaning.specs.Exchange.{both-hold, other-peer, ahead-of-us, row-ahead-of-us, clashes, tidied, mended, repair}
 use Rattle.laws.proofs.Answers.{passes, passes-not, then, by-refusal, by-none, accepted-with}
-use Rattle.laws.proofs.Merging.{Carried}
 use Rattle.layout.specs.Messages.{checks-right, decode-reply, laid-out-reply}
 use Rattle.layout.specs.Calls.{with-message}
-use Rattle.noting.specs.Noted.{Crewed}
-use Rattle.weighing.specs.Weighed.{takable}
-use Rattle.reply_form.proofs.Points.{points-are}
 use Rattle.hearing.specs.Heard.{peers-judged, reply-judged}
-use Rattle.hearing.proofs.Filled.{reply-sender, crewed-points, apart-dots, filled-takable, filled-carried}
 
 -- what rows 3 to 10 leave of a reply
 pub record ReplyFacts (message : List ℕ) (s : State) : Type 0 where
@@ -41,23 +33,6 @@ pub record ReplyFacts (message : List ℕ) (s : State) : Type 0 where
   pub no-clash : some? (λ p. some? (clashes s (p .key)) (p .object .versions)) (decode-reply message .points) ≡ false
 
 -- ---- its points
-
-module _ (message : List ℕ) (s : State) (F : ReplyFacts message s) where
-  pub heard-sender : Crew (decode-reply message .sender)
-  heard-sender = reply-sender s (decode-reply message) (F .formed)
-
-  pub heard-crewed : Crewed (drop 512 message)
-  heard-crewed = crewed-points s (decode-reply message) (F .formed) (drop 512 message) (sym (points-are message))
-
-  pub heard-apart : (p q : Stored) (v w : Version) → p ∈ decode-reply message .points → q ∈ decode-reply message .points → v ∈ p .object .versions → w ∈ q .object .versions → v .dot ≡ w .dot → p .key ≡ q .key
-  heard-apart = apart-dots s (decode-reply message) (F .formed)
-
-  module _ (own-crew : Crew (s .own)) (p : Stored) (m : p ∈ decode-reply message .points) where
-    pub heard-takable : takable s (p .key) (fill (s .table) (p .key .job) (decode-reply message .clock) (p .object)) ≡ true
-    heard-takable = filled-takable s (decode-reply message) (F .formed) own-crew (F .held) (F .not-ahead) (F .row-not-ahead) (F .no-clash) p m
-
-    pub heard-carried : Carried s (p .key) (fill (s .table) (p .key .job) (decode-reply message .clock) (p .object))
-    heard-carried = filled-carried s (decode-reply message) (F .formed) own-crew (F .held) (F .not-ahead) (F .row-not-ahead) (F .no-clash) p m
 
 -- ---- an accepted one
 

@@ -23,17 +23,15 @@ use Rattle.meaning.specs.Clock.{row, every-row}
 use Rattle.meaning.specs.Context.{entry, fill-context}
 use Rattle.meaning.specs.Object.{Version, fill}
 use Rattle.meaning.specs.State.{Stored, stored-before, State, own-base, dots-of}
-use Rattle.meaning.specs.Message.{Outgoing, Reply, point-formed, covers-all, is-none, clock-formed, dots-agree, outgoing-formed, reply-formed}
+use Rattle.meaning.specs.Message.{Reply, point-formed, covers-all, is-none, clock-formed, dots-agree, reply-formed}
 use Rattle.meaning.specs.Exchange.{both-hold, ahead-of-us, row-ahead-of-us, clashes}
 use Rattle.laws.proofs.ContextLaws.{fill-holder}
-use Rattle.laws.proofs.Facts.{point-facts, point-of-facts, row-at, dots-in, agree-at}
+use Rattle.laws.proofs.Facts.{point-facts, point-of-facts, row-at}
 use Rattle.laws.proofs.Local.{fill-context-facts}
-use Rattle.laws.proofs.Merging.{Carried}
 use Rattle.layout.specs.PointBlock.{form-1, decode-stored}
 use Rattle.record.proofs.Questions.{formed-crewed}
 use Rattle.arriving.specs.Sent.{points-in}
 use Rattle.noting.specs.Noted.{Crewed}
-use Rattle.checking.proofs.Accepted.{point-carried}
 use Rattle.weighing.specs.Weighed.{takable}
 
 -- ---- what is formed in it
@@ -79,11 +77,6 @@ module _ (s : State) (r : Reply) (formed : reply-formed (s .table) r ≡ true) w
 
   pub points-ascend : ascends? stored-before (r .points) ≡ true
   points-ascend = test 5
-
-  -- a dot that stands in two points is of one
-  pub apart-dots : (p q : Stored) (v w : Version) → p ∈ r .points → q ∈ r .points → v ∈ p .object .versions → w ∈ q .object .versions → v .dot ≡ w .dot → p .key ≡ q .key
-  apart-dots p q v w mp mq mv mw e =
-      agree-at (dots-of (r .points)) (dots-of (r .points)) (test 6) (record { dot = v .dot; key = p .key }) (record { dot = w .dot; key = q .key }) (dots-in (r .points) mp mv) (dots-in (r .points) mq mw) e
 
   -- the versions of each block of the run in which its points stand are of controllers
   pub crewed-points : (run : List ℕ) → r .points ≡ points-in run → Crewed run
@@ -151,14 +144,3 @@ module _ (s : State) (r : Reply) (formed : reply-formed (s .table) r ≡ true) w
     unfolding takable
     filled-takable =
         all-passed (filled-formed p m and-also held-here and-also filled-covered p m and-also ap not filled-not-ahead and-also ap not filled-no-clash and-also passed)
-
-    -- as a message of this one point it would pass too
-    abbrev alone : Outgoing
-    alone = record { sender = r .sender; key = p .key; object = fill (s .table) (p .key .job) (r .clock) (p .object) }
-
-    alone-formed : outgoing-formed (s .table) alone ≡ true
-    unfolding outgoing-formed
-    alone-formed = all-passed (test 0 and-also filled-formed p m and-also filled-covered p m and-also passed)
-
-    pub filled-carried : Carried s (p .key) (fill (s .table) (p .key .job) (r .clock) (p .object))
-    filled-carried = point-carried s alone alone-formed both filled-not-ahead filled-no-clash

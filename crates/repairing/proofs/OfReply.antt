@@ -14,7 +14,7 @@ use Rattle.refusal.specs.declared.Refusal.the-variants.{OutOfRange, NotPeer, Hi
 use Rattle.refusal.specs.Refusal.{verdict-of}
 use Rattle.block.specs.Block.{block-at}
 use Rattle.block.proofs.Arrays.{upto-in}
-use Rattle.meaning.specs.Object.{fill}
+use Rattle.meaning.specs.Object.{Version, fill}
 use Rattle.meaning.specs.Clock.{row, with-row}
 use Rattle.meaning.specs.State.{Stored, stored-before, State}
 use Rattle.meaning.specs.Message.{Reply}
@@ -23,7 +23,7 @@ use Rattle.meaning.specs.Exchange.{both-hold, other-peer, ahead-of-us, row-ahea
 use Rattle.laws.proofs.Answers.{passes, passes-not, accepted-with}
 use Rattle.laws.proofs.Goodness.{Good}
 use Rattle.laws.proofs.Merging.{Clocked, Carried}
-use Rattle.laws.proofs.StaysGood.{other, united-clock}
+use Rattle.laws.proofs.StaysGood.{other, united-clock, carried, agree}
 use Rattle.row.specs.Row.{sound}
 use Rattle.block.specs.Fields.{cut}
 use Rattle.layout.specs.Clocks.{decode-clock}
@@ -34,7 +34,7 @@ use Rattle.arriving.proofs.Merged.{entered-is}
 use Rattle.noting.specs.Noted.{noted}
 use Rattle.joining.proofs.Noted.{own-kept, foreign-is}
 use Rattle.hearing.specs.Heard.{AllLaid, reply-in, peers-judged}
-use Rattle.hearing.proofs.Filled.{reply-sender, reply-row-sound, points-ascend, apart-dots, filled-takable, filled-carried}
+use Rattle.hearing.proofs.Filled.{reply-sender, reply-row-sound, points-ascend, filled-takable}
 use Rattle.mending.specs.Mended.{results}
 use Rattle.tallying.specs.Tallied.{AllReady}
 use Rattle.repairing.specs.Repaired.{united, outcome, clock-after, Heard}
@@ -69,23 +69,23 @@ module _ (s : State) (G : Good s) (q : Reply) (h : Heard s q) where
   pub clocked : Clocked s (united s q)
   clocked = united-clock s q G (h .0) (P .held) (P .peer) (P .behind) (P .free)
 
-  not-ahead : (some? (λ p. ahead-of-us s (p .object)) (q .points) ≡ false) × (row-ahead-of-us s (q .clock) ≡ false)
-  not-ahead = or-false (some? (λ p. ahead-of-us s (p .object)) (q .points)) (row-ahead-of-us s (q .clock)) (P .behind)
+  carried-all : (p : Stored) → p ∈ q .points → Carried s (p .key) (fill (s .table) (p .key .job) (q .clock) (p .object))
+  carried-all = carried s q G (h .0) (P .held) (P .peer) (P .behind) (P .free)
 
-  carried : (p : Stored) → p ∈ q .points → Carried s (p .key) (fill (s .table) (p .key .job) (q .clock) (p .object))
-  carried p m = filled-carried s q (h .0) (G .own-crew) (P .held) (not-ahead .0) (not-ahead .1) (P .free) p m
+  apart-all : (p r : Stored) (v w : Version) → p ∈ q .points → r ∈ q .points → v ∈ p .object .versions → w ∈ r .object .versions → v .dot ≡ w .dot → p .key ≡ r .key
+  apart-all = agree s q G (h .0) (P .held) (P .peer) (P .behind) (P .free)
 
   pub clock-is : entered (united s q) (outcome s q) ≡ with-arrivals s (united s q) (q .points)
   unfolding mended fill
-  clock-is = entered-is s G (united s q) clocked (q .points) (λ p. fill (s .table) (p .key .job) (q .clock) (p .object)) (λ p. refl) carried (apart-dots s q (h .0))
+  clock-is = entered-is s G (united s q) clocked (q .points) (λ p. fill (s .table) (p .key .job) (q .clock) (p .object)) (λ p. refl) carried-all apart-all
 
   pub own-is : own-listed s (outcome s q) ≡ s .own-dots
   unfolding mended fill
-  own-is = own-kept s G (q .points) (λ p. fill (s .table) (p .key .job) (q .clock) (p .object)) (λ p. refl) carried (apart-dots s q (h .0))
+  own-is = own-kept s G (q .points) (λ p. fill (s .table) (p .key .job) (q .clock) (p .object)) (λ p. refl) carried-all apart-all
 
   pub foreign-are : foreign-listed s (outcome s q) ≡ noted s (q .points)
   unfolding mended fill
-  foreign-are = foreign-is s G (q .points) (λ p. fill (s .table) (p .key .job) (q .clock) (p .object)) (λ p. refl) carried (apart-dots s q (h .0))
+  foreign-are = foreign-is s G (q .points) (λ p. fill (s .table) (p .key .job) (q .clock) (p .object)) (λ p. refl) carried-all apart-all
 
   -- results have their points' keys, so they ascend as these do
   pub in-order : ascends? stored-before (outcome s q) ≡ true
