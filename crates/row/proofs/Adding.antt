@@ -20,7 +20,7 @@ use Rattle.row.proofs.Advancing.{advanced-member, advanced-clear, advan
 
 -- ---- the digits of a power of two
 
-pow-digit : (i : ℕ) → digit i (2 ^ i) ≡ 1
+pub pow-digit : (i : ℕ) → digit i (2 ^ i) ≡ 1
 pow-digit i = ap (λ (x : ℕ). x % 2) (div-self (pow-pos i))
 
 pow-below : (i j k : ℕ) → i ≡ suc k + j → digit j (2 ^ i) ≡ 0

@@ -56,10 +56,10 @@ or-one j a b h = ⊎-elim (λ p. ⊎-elim (λ q. absurd (omega (arith, zero-one 
     zero-one : digit j a ≡ 0 → digit j b ≡ 0 → _≡_ {A = ℕ} 0 1
     zero-one p q = sym (digit-or j a b ∙ ap₂ bitOr p q) ∙ h
 
-or-left : (j a b : ℕ) → digit j a ≡ 1 → digit j (bitOr a b) ≡ 1
+pub or-left : (j a b : ℕ) → digit j a ≡ 1 → digit j (bitOr a b) ≡ 1
 or-left j a b p = ⊎-elim (λ q. digit-or j a b ∙ ap₂ bitOr p q) (λ q. digit-or j a b ∙ ap₂ bitOr p q) (parity (b / 2 ^ j))
 
-or-right : (j a b : ℕ) → digit j b ≡ 1 → digit j (bitOr a b) ≡ 1
+pub or-right : (j a b : ℕ) → digit j b ≡ 1 → digit j (bitOr a b) ≡ 1
 or-right j a b q = ⊎-elim (λ p. digit-or j a b ∙ ap₂ bitOr p q) (λ p. digit-or j a b ∙ ap₂ bitOr p q) (parity (a / 2 ^ j))
 
 -- ---- members

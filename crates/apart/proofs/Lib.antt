@@ -1,0 +1,4 @@
+pub mod Versions
+pub mod Marking
+pub mod Lent
+pub mod Earlier
