@@ -8,7 +8,7 @@ use Rattle.numbers.specs.Words.{every, some?}
 use Rattle.numbers.specs.Dot.{same-dot}
 use Rattle.block.specs.Fields.{field, upto}
 use Rattle.block.proofs.Passing.{Passing, one-more, one-fails, all-passed, some-upto}
-use Rattle.meaning.specs.Object.{Version, has-dot}
+use Rattle.meaning.specs.Object.{has-dot}
 use Rattle.layout.specs.PointBlock.{form-1, decode-point, decode-stored}
 use Rattle.record.proofs.Reading as reading
 use Rattle.record.proofs.Reading.{version-at}

@@ -4,7 +4,7 @@ use Prim.Native.Nat.{ℕ, _+_, _*_, _/_, _%_, _^_, _<_}
 use mathlib.Core.Path.{_≡_}
 use mathlib.Core.Bool.{Bool, true}
 use mathlib.Core.List.{List}
-use lib.ListN.{getD, set}
+use lib.ListN.{length, getD, set}
 use lib.Bits.{bitOr}
 use Rattle.numbers.specs.declared.Dot.{Dot}
 use Rattle.numbers.specs.Words.{all?}
@@ -23,6 +23,7 @@ marked ms k = bit (k % 64) (getD ms (k / 64) 0)
 unfoldable pub with-mark : List ℕ → ℕ → List ℕ
 with-mark ms k = set ms (k / 64) (bitOr (getD ms (k / 64) 0) (2 ^ (k % 64)))
 
--- the marks of all versions of the first n points stand
-abbrev pub Noted : List ℕ → List ℕ → ℕ → Type 0
-Noted ms run n = (i : ℕ) → i < n → all? (λ v. marked ms (mark-of (v .dot))) (point-of run i .object .versions) ≡ true
+-- 32 numbers, among whose marks those of all versions of the first n points stand
+pub record Noted (ms run : List ℕ) (n : ℕ) : Type 0 where
+  pub size : length ms ≡ 32
+  pub stand : (i : ℕ) → i < n → all? (λ v. marked ms (mark-of (v .dot))) (point-of run i .object .versions) ≡ true

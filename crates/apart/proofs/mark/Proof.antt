@@ -7,8 +7,6 @@ use Rattle.apart.proofs.Marking.{with-mark-is}
 use borrow.Author.Needs.{needs}
 use Rattle.apart.proofs.mark.Statement.{statement}
 use Rattle.apart.proofs.mark.Tie as tie
-use Rattle.apart.proofs.mark.Reads as reads
-use Rattle.apart.proofs.mark.Lts as lts
 
 cast-k : tie.Need-cast-k
 cast-k c = search needs
