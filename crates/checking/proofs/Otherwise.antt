@@ -21,7 +21,7 @@ use Rattle.meaning.specs.Exchange.{clashes}
 use Rattle.layout.specs.PointBlock.{form-1, decode-point, decode-stored}
 use Rattle.layout.specs.Image.{decode-dots, decode, goodImage}
 use Rattle.image.specs.Apart.{point-at, listed-for}
-use Rattle.image.proofs.Loops.{block-part}
+use Rattle.apart.proofs.Lent.{block-part}
 use Rattle.store.proofs.Lent.{good-now}
 use Rattle.store.proofs.ListsLent.{own-list, foreign-list}
 use Rattle.checking.specs.Points.{versions-clash, record-clashes, list-clashes}

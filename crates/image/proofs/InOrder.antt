@@ -20,26 +20,13 @@ use Rattle.block.specs.Fields.{upto}
 use Rattle.block.proofs.Arrays.{in-upto, upto-in}
 use Rattle.block.proofs.ByIndex.{upto-ascends}
 use Rattle.block.proofs.Passing.{every-true, every-at}
-use Rattle.meaning.specs.Object.{Version, has-dot}
+use Rattle.meaning.specs.Object.{Version}
 use Rattle.meaning.specs.State.{Stored, stored-before, Listed, dots-of}
 use Rattle.meaning.specs.Message.{dots-agree}
-use Rattle.laws.proofs.MergeLaws.{has-dot-of, of-has-dot}
 use Rattle.laws.proofs.Facts.{in-dots, dots-in, agree-at, at-agree}
-use Rattle.image.specs.Apart.{apart, listed-for}
-
--- ---- dots
-
-no-shared : (p q : Stored) → apart p q ≡ true → (v w : Version) → v ∈ p .object .versions → w ∈ q .object .versions → v .dot ≡ w .dot → ⊥
-unfolding apart
-no-shared p q t v w mv mw e =
-    never (subst (λ (d : Dot). has-dot (q .object .versions) d ≡ true) (sym e) (of-has-dot (q .object .versions) mw))
-    (not-true (has-dot (q .object .versions) (v .dot)) (all-in (λ x. not (has-dot (q .object .versions) (x .dot))) (p .object .versions) t mv))
-
-shares-none : (p q : Stored) → ((v w : Version) → v ∈ p .object .versions → w ∈ q .object .versions → v .dot ≡ w .dot → ⊥) → apart p q ≡ true
-unfolding apart
-shares-none p q h =
-    in-all (λ v. not (has-dot (q .object .versions) (v .dot))) (p .object .versions)
-    (λ v m. by-test (has-dot (q .object .versions) (v .dot)) (λ t. let x = has-dot-of (q .object .versions) (v .dot) t in absurd (h v (x .0) m (x .1) (sym (x .2)))) (λ t. ap not t))
+use Rattle.apart.specs.Apart.{apart}
+use Rattle.apart.proofs.Earlier.{no-shared, shares-none}
+use Rattle.image.specs.Apart.{listed-for}
 
 -- points that ascend have their dots apart just where no two of them share one
 module _ (n : ℕ) (f : ℕ → Stored) (up : Ascends stored-before (upto n f)) where

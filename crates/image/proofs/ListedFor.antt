@@ -28,8 +28,10 @@ use Rattle.dots.specs.declared.Found.the-variants.{At, Before}
 use Rattle.dots.specs.Entries.{entry, no-entry, Found-in}
 use Rattle.dots.proofs.Laid.{entries-are, entries-length}
 use Rattle.dots.proofs.Search.{all-pairs}
+use Rattle.record.proofs.Reading.{version-at}
+use Rattle.apart.proofs.Lent.{block-part}
+use Rattle.apart.proofs.Versions.{versions-are}
 use Rattle.image.specs.Apart.{dot-listed-for, listed-for, point-at}
-use Rattle.image.proofs.Loops.{slot, versions-are, block-part}
 
 -- an entry of the dot is for the point
 abbrev for-point : Dot → Key → Listed → Bool
@@ -89,16 +91,16 @@ module _ (b : List ℕ) (few : field b 4 2 ≤ 60) (d : Dot) (k : Key) where
 -- ---- the versions of a block
 
 abbrev pub slot-listed : List Listed → List ℕ → ℕ → Bool
-slot-listed ls b i = dot-listed-for ls (slot b i .dot) (decode-point form-1 b .key)
+slot-listed ls b i = dot-listed-for ls (version-at b i .dot) (decode-point form-1 b .key)
 
 pub listed-by : (ls : List Listed) (b : List ℕ) → field b 5 1 ≤ 8 → listed-for ls (decode-stored form-1 b) ≡ every (upto (field b 5 1) (slot-listed ls b))
 unfolding listed-for decode-stored
 listed-by ls b h =
     ap (all? (λ v. dot-listed-for ls (v .dot) (decode-point form-1 b .key))) (versions-are b h)
-    ∙ all-upto (λ v. dot-listed-for ls (v .dot) (decode-point form-1 b .key)) (field b 5 1) (slot b)
+    ∙ all-upto (λ v. dot-listed-for ls (v .dot) (decode-point form-1 b .key)) (field b 5 1) (version-at b)
 
-pub slot-is : (ls : List Listed) (b : List ℕ) (i : ℕ) (d : Dot) (k : Key) (r : Bool) → d ≡ slot b i .dot → k ≡ decode-point form-1 b .key → r ≡ dot-listed-for ls d k → r ≡ slot-listed ls b i
-slot-is ls b i d k r p q e = e ∙ ap (λ (x : Dot). dot-listed-for ls x k) p ∙ ap (dot-listed-for ls (slot b i .dot)) q
+pub slot-is : (ls : List Listed) (b : List ℕ) (i : ℕ) (d : Dot) (k : Key) (r : Bool) → d ≡ version-at b i .dot → k ≡ decode-point form-1 b .key → r ≡ dot-listed-for ls d k → r ≡ slot-listed ls b i
+slot-is ls b i d k r p q e = e ∙ ap (λ (x : Dot). dot-listed-for ls x k) p ∙ ap (dot-listed-for ls (version-at b i .dot)) q
 
 -- all of them
 pub listed-all : (ls : List Listed) (b : List ℕ) (n : ℕ) (r : Bool) → field b 5 1 ≤ 8 → n ≡ field b 5 1 → r ≡ every (upto n (slot-listed ls b)) → r ≡ listed-for ls (decode-stored form-1 b)

@@ -1,35 +1,29 @@
--- What the loops over versions and over stored points have shown. Assumes nothing.
+-- What the loops over stored points have shown. Assumes nothing.
 use Prim.Native.Nat.{ℕ, _+_, _*_, _-_, _≤_, _<_}
-use mathlib.Core.Path.{_≡_, ap, sym, _∙_, subst}
-use mathlib.Core.Bool.{Bool, true, false, not}
+use mathlib.Core.Path.{_≡_, ap, ap₂, sym, _∙_, subst}
+use mathlib.Core.Bool.{Bool, true, false}
 use mathlib.Core.List.{List}
 use native.Mathlib.Omega.{arith}
-use lib.ListN.{take, drop}
+use lib.ListN.{length, take, drop, length-drop}
+use lib.Seq.{take-all, drop-drop}
 use Rattle.numbers.specs.declared.Controller.{Controller}
-use Rattle.numbers.specs.declared.Dot.{Dot}
 use Rattle.numbers.specs.declared.Key.{Key}
-use Rattle.numbers.specs.Words.{every, all?, some?, ascends?, same-list}
-use Rattle.numbers.specs.Dot.{same-dot}
+use Rattle.numbers.specs.Words.{every, ascends?, same-list}
 use Rattle.numbers.specs.Key.{key-before}
-use Rattle.block.specs.Fields.{cut, field, upto}
+use Rattle.block.specs.Fields.{field, upto}
 use Rattle.block.specs.Block.{block-at}
-use Rattle.block.proofs.Parts.{part-is}
-use Rattle.block.proofs.Arrays.{take-upto}
+use Rattle.block.proofs.Arrays.{upto-same}
 use Rattle.block.proofs.ByIndex.{Pairs, ascends-upto, pairs-more, pairs-fail}
-use Rattle.block.proofs.Passing.{all-upto, some-upto}
-use Rattle.meaning.specs.Object.{Version, has-dot}
 use Rattle.meaning.specs.State.{stored-before}
 use Rattle.laws.proofs.Putting.{stored-order}
 use Rattle.layout.specs.Clocks.{decode-clock}
-use Rattle.layout.specs.PointBlock.{form-1, decode-slot, decode-point, encode-stored, decode-stored}
+use Rattle.layout.specs.PointBlock.{form-1, decode-point, encode-stored, decode-stored}
 use Rattle.record.specs.RecordGood.{record-good}
+use Rattle.apart.specs.Apart as run
+use Rattle.apart.specs.Apart.{point-of, apart}
+use Rattle.apart.proofs.Lent.{block-part}
 use Rattle.image.specs.Parts.{stored-laid-out, Few}
-use Rattle.image.specs.Apart.{apart, point-at, apart-from-earlier}
-
--- a block of the image, as it is lent
-pub block-part : (img : List ℕ) (k : ℕ) → take (512 * k + 512 - 512 * k) (drop (512 * k) img) ≡ block-at img k
-unfolding block-at
-block-part img k = part-is img (512 * k) 512
+use Rattle.image.specs.Apart.{point-at, apart-from-earlier}
 
 pub laid-out-part : (img : List ℕ) (k : ℕ) (r : Bool)
     → r ≡ same-list (encode-stored form-1 k (decode-stored form-1 (take (512 * k + 512 - 512 * k) (drop (512 * k) img)))) (take (512 * k + 512 - 512 * k) (drop (512 * k) img)) → r ≡ stored-laid-out img k
@@ -43,41 +37,6 @@ good-part img i own table rows r e = e ∙ ap (λ (b : List ℕ). record-good ow
 
 pub few-part : (img : List ℕ) (n i : ℕ) → Few img n → i < n → field (take (512 * (3 + i) + 512 - 512 * (3 + i)) (drop (512 * (3 + i)) img)) 5 1 ≤ 8
 few-part img n i h l = subst (λ (b : List ℕ). field b 5 1 ≤ 8) (sym (block-part img (3 + i))) (h i l)
-
--- ---- the versions of a block
-
-abbrev pub slot : List ℕ → ℕ → Version
-slot b i = decode-slot form-1 (cut b (40 + 32 * i) 32)
-
-pub versions-are : (b : List ℕ) → field b 5 1 ≤ 8 → decode-stored form-1 b .object .versions ≡ upto (field b 5 1) (slot b)
-unfolding decode-stored decode-point
-versions-are b h = take-upto (field b 5 1) 8 (slot b) h
-
--- the i-th version has another dot
-abbrev pub another : List ℕ → Dot → ℕ → Bool
-another b d i = not (same-dot d (slot b i .dot))
-
-pub has-dot-by : (b : List ℕ) (d : Dot) → field b 5 1 ≤ 8 → has-dot (decode-stored form-1 b .object .versions) d ≡ not (every (upto (field b 5 1) (another b d)))
-unfolding has-dot
-has-dot-by b d h = ap (some? (λ w. same-dot d (w .dot))) (versions-are b h) ∙ some-upto (λ w. same-dot d (w .dot)) (field b 5 1) (slot b)
-
-pub another-is : (b : List ℕ) (d v : Dot) (i : ℕ) (r t : Bool) → r ≡ same-dot d v → v ≡ slot b i .dot → r ≡ t → another b d i ≡ not t
-another-is b d v i r t e f g = ap not (sym (ap (same-dot d) f) ∙ sym e ∙ g)
-
--- ---- two blocks
-
--- the i-th version of a is none of b's
-abbrev pub foreign : List ℕ → List ℕ → ℕ → Bool
-foreign a b i = not (has-dot (decode-stored form-1 b .object .versions) (slot a i .dot))
-
-pub apart-by : (a b : List ℕ) → field a 5 1 ≤ 8 → apart (decode-stored form-1 a) (decode-stored form-1 b) ≡ every (upto (field a 5 1) (foreign a b))
-unfolding apart
-apart-by a b h =
-    ap (all? (λ v. not (has-dot (decode-stored form-1 b .object .versions) (v .dot)))) (versions-are a h)
-    ∙ all-upto (λ v. not (has-dot (decode-stored form-1 b .object .versions) (v .dot))) (field a 5 1) (slot a)
-
-pub foreign-is : (a b : List ℕ) (v : Dot) (i : ℕ) (r t : Bool) → r ≡ has-dot (decode-stored form-1 b .object .versions) v → v ≡ slot a i .dot → r ≡ t → foreign a b i ≡ not t
-foreign-is a b v i r t e f g = ap not (sym (ap (has-dot (decode-stored form-1 b .object .versions)) f) ∙ sym e ∙ g)
 
 -- ---- neighbours
 
@@ -126,13 +85,27 @@ all-up img count i l h = sym (ascends-upto stored-before count (point-at img) (�
 
 -- ---- each record with those before it
 
-pub apart-parts : (img : List ℕ) (i j : ℕ) (r : Bool)
-    → r ≡ apart (decode-stored form-1 (take (512 * (3 + i) + 512 - 512 * (3 + i)) (drop (512 * (3 + i)) img))) (decode-stored form-1 (take (512 * (3 + j) + 512 - 512 * (3 + j)) (drop (512 * (3 + j)) img)))
-    → r ≡ apart (point-at img i) (point-at img j)
-apart-parts img i j r e =
-    e ∙ ap (λ (b : List ℕ). apart (decode-stored form-1 b) (decode-stored form-1 (take (512 * (3 + j) + 512 - 512 * (3 + j)) (drop (512 * (3 + j)) img)))) (block-part img (3 + i))
-    ∙ ap (λ (b : List ℕ). apart (point-at img i) (decode-stored form-1 b)) (block-part img (3 + j))
+-- what stands behind the head and the lists, as it is lent
+pub behind-lent : (img : List ℕ) → take (length img - 1536) (drop 1536 img) ≡ drop 1536 img
+behind-lent img = take-all (length img - 1536) (drop 1536 img) (omega (arith, length-drop 1536 img))
 
-pub apart-by-loop : (img : List ℕ) (j : ℕ) (r : Bool) → r ≡ every (upto j (λ i. apart (point-at img i) (point-at img j))) → r ≡ apart-from-earlier img j
-unfolding apart-from-earlier
-apart-by-loop img j r e = e
+block-behind : (img : List ℕ) (i : ℕ) → block-at (drop 1536 img) i ≡ block-at img (3 + i)
+unfolding block-at
+block-behind img i = ap (take 512) (drop-drop (512 * i) 1536 img ∙ ap (λ (o : ℕ). drop o img) there)
+  where
+    there : 1536 + 512 * i ≡ 512 * (3 + i)
+    there = omega arith
+
+pub few-behind : (img : List ℕ) (n : ℕ) → Few img n → run.Few (take (length img - 1536) (drop 1536 img)) n
+few-behind img n few i l = subst (λ (b : List ℕ). field b 5 1 ≤ 8) (sym (ap (λ (r : List ℕ). block-at r i) (behind-lent img) ∙ block-behind img i)) (few i l)
+
+apart-behind : (img : List ℕ) (j : ℕ) → run.apart-from-earlier (drop 1536 img) j ≡ apart-from-earlier img j
+unfolding run.apart-from-earlier apart-from-earlier
+apart-behind img j =
+    ap every (upto-same j (λ i. apart (point-of (drop 1536 img) i) (point-of (drop 1536 img) j)) (λ i. apart (point-at img i) (point-at img j))
+    (λ i l. ap₂ (λ (a b : List ℕ). apart (decode-stored form-1 a) (decode-stored form-1 b)) (block-behind img i) (block-behind img j)))
+
+pub all-behind : (img : List ℕ) (n : ℕ) → every (upto n (run.apart-from-earlier (take (length img - 1536) (drop 1536 img)))) ≡ every (upto n (apart-from-earlier img))
+all-behind img n =
+    ap (λ (r : List ℕ). every (upto n (run.apart-from-earlier r))) (behind-lent img)
+    ∙ ap every (upto-same n (run.apart-from-earlier (drop 1536 img)) (apart-from-earlier img) (λ j l. apart-behind img j))

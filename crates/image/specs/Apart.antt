@@ -10,14 +10,10 @@ use Rattle.numbers.specs.Dot.{same-dot}
 use Rattle.numbers.specs.Key.{same-key}
 use Rattle.block.specs.Fields.{cut, upto}
 use Rattle.block.specs.Block.{block-at}
-use Rattle.meaning.specs.Object.{has-dot}
 use Rattle.meaning.specs.State.{Stored, Listed}
 use Rattle.layout.specs.PointBlock.{form-1, decode-stored}
 use Rattle.layout.specs.Image.{decode-dots}
-
--- no version dot of p is one of q
-unfoldable pub apart : Stored → Stored → Bool
-apart p q = all? (λ v. not (has-dot (q .object .versions) (v .dot))) (p .object .versions)
+use Rattle.apart.specs.Apart.{apart}
 
 -- the dot, where it is listed, is listed for the point k
 abbrev pub dot-listed-for : List Listed → Dot → Key → Bool

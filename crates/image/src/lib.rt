@@ -10,7 +10,6 @@ ghost use lib.ListN.{length};
 ghost use Rattle.numbers.specs.Words.{every, ascends?};
 ghost use Rattle.numbers.specs.Numbers.{Crew};
 ghost use Rattle.block.specs.Fields.{cut, field, upto};
-ghost use Rattle.meaning.specs.Object.{has-dot};
 ghost use Rattle.meaning.specs.State.{stored-before, listed-before};
 ghost use Rattle.layout.specs.PointBlock.{form-1, decode-stored};
 ghost use Rattle.layout.specs.Clocks.{decode-clock};
@@ -18,7 +17,7 @@ ghost use Rattle.layout.specs.Image.{image-length, decode, decode-dots, goodIma
 ghost use Rattle.record.specs.RecordGood.{record-good};
 ghost use Rattle.image.specs.Parts.{stored-count, stored-laid-out, Few, Ascending, parts-laid-out, parts-good};
 ghost use Rattle.image.specs.Places.{Point-in};
-ghost use Rattle.image.specs.Apart.{apart, apart-from-earlier, point-at, dot-listed-for, listed-for, all-apart};
+ghost use Rattle.image.specs.Apart.{apart-from-earlier, point-at, dot-listed-for, listed-for, all-apart};
 
 // The number of stored points: "then points .., then blocks of zeros", so up to the first block of kind 0.
 pub fn stored_count(image: &[u8]) -> usize
@@ -44,38 +43,6 @@ pub fn points_laid_out(image: &[u8], count: usize) -> bool
     while i < count {
         let at = 512 * (3 + i);
         if !record::stored_laid_out(&image[at..at + 512], (3 + i) as u16) {
-            return false;
-        }
-        i += 1;
-    }
-    true
-}
-
-// One of the versions of a point block has this dot.
-pub fn has_version(b: &[u8], d: Dot) -> bool
-    requires { ⌜ (length (now b) ≡ 512) × (field (now b) 5 1 ≤ 8) ⌝ }
-    ensures { λ r. ⌜ r ≡ has-dot (decode-stored form-1 (now (b .entry)) .object .versions) d ⌝ }
-{
-    let count = record::version_count(b) as usize;
-    let mut i: usize = 0;
-    while i < count {
-        if d.same(record::version_dot(b, i)) {
-            return true;
-        }
-        i += 1;
-    }
-    false
-}
-
-// No version dot of the point block a is one of b.
-pub fn shares_none(a: &[u8], b: &[u8]) -> bool
-    requires { ⌜ (length (now a) ≡ 512) × (field (now a) 5 1 ≤ 8) × (length (now b) ≡ 512) × (field (now b) 5 1 ≤ 8) ⌝ }
-    ensures { λ r. ⌜ r ≡ apart (decode-stored form-1 (now (a .entry))) (decode-stored form-1 (now (b .entry))) ⌝ }
-{
-    let count = record::version_count(a) as usize;
-    let mut i: usize = 0;
-    while i < count {
-        if has_version(b, record::version_dot(a, i)) {
             return false;
         }
         i += 1;
@@ -142,36 +109,12 @@ pub fn records_good(image: &[u8], count: usize, own: Controller, table: &[u8], r
     true
 }
 
-// The j-th stored point shares no dot with one before it.
-pub fn apart_from_earlier(image: &[u8], j: usize) -> bool
-    requires { ⌜ (length (now image) ≡ image-length) × (j < 64) × Few (now image) (j + 1) ⌝ }
-    ensures { λ r. ⌜ r ≡ apart-from-earlier (now (image .entry)) j ⌝ }
-{
-    let there = 512 * (3 + j);
-    let mut i: usize = 0;
-    while i < j {
-        let at = 512 * (3 + i);
-        if !shares_none(&image[at..at + 512], &image[there..there + 512]) {
-            return false;
-        }
-        i += 1;
-    }
-    true
-}
-
 // No two stored points share a dot.
 pub fn records_apart(image: &[u8], count: usize) -> bool
     requires { ⌜ (length (now image) ≡ image-length) × (count ≤ 64) × Few (now image) count ⌝ }
     ensures { λ r. ⌜ r ≡ every (upto count (apart-from-earlier (now (image .entry)))) ⌝ }
 {
-    let mut j: usize = 0;
-    while j < count {
-        if !apart_from_earlier(image, j) {
-            return false;
-        }
-        j += 1;
-    }
-    true
+    apart::points_apart(&image[1536..], count)
 }
 
 // Every block is laid out as it should be, and zeros follow the last point.

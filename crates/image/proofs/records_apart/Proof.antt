@@ -1,50 +1,32 @@
-use native.Mathlib.Omega.{arith}
-use Prim.Native.Nat.{_+_, _-_}
-use Rattle.block.proofs.Passing.{Passing, none-passed, one-more, one-fails, all-passed, said-no, said-yes}
-use Rattle.image.specs.Apart.{apart-from-earlier}
+-- `image::records_apart` meets its contract: the stored points are those of the run of blocks behind the lists (Loops). Assumes nothing.
+use borrow.Author.Needs.{needs}
+use mathlib.Core.Path.{_∙_}
+use Rattle.image.proofs.Loops.{few-behind, all-behind}
+use denote.Ref.{now}
 use Rattle.image.proofs.records_apart.Statement.{statement}
 use Rattle.image.proofs.records_apart.Tie as tie
-use Rattle.image.proofs.records_apart.Reads as reads
-use Rattle.image.proofs.records_apart.Lts as lts
-use Rattle.image.proofs.apart_from_earlier.Reads as apart-from-earlier-reads
 
-abbrev Inv-loop : tie.InvT-loop
-Inv-loop image count j₀ j = Passing count (apart-from-earlier image) j
+sub-points-apart : tie.Need-sub-points-apart
+sub-points-apart c = search needs
 
-abbrev μ-loop : tie.MeasureT-loop
-μ-loop image count j₀ j = count - j
+part-points-apart-start : tie.Need-part-points-apart-start
+part-points-apart-start c = search needs
 
-loop-holds : tie.Need-loop-holds Inv-loop μ-loop
-loop-holds c = none-passed _ _
+part-points-apart-end : tie.Need-part-points-apart-end
+part-points-apart-end c = search needs
 
-apart-from-earlier-requires : tie.Need-apart-from-earlier-requires Inv-loop μ-loop
-apart-from-earlier-requires c κs = (omega arith, omega arith, λ i l. c .before .before .before .pre .2 i (omega arith))
+points-apart-requires : tie.Need-points-apart-requires
+points-apart-requires c κs = (search needs, few-behind (now (c .before .before .args .image)) (c .before .before .args .count) (c .before .before .pre .2))
 
-returns : tie.Need-returns Inv-loop μ-loop
-returns c = one-fails (c .before .before .before .loop .inv) (omega arith) (said-no (c .before .apart-from-earlier .ensures) (c .if1 .taken))
-
-add-j : tie.Need-add-j Inv-loop μ-loop
-add-j c = omega arith
-
-loop-less : tie.Need-loop-less Inv-loop μ-loop
-loop-less c = omega arith
-
-loop-again : tie.Need-loop-again Inv-loop μ-loop
-loop-again c = one-more (c .before .before .before .loop .inv) (omega arith) (said-yes (c .before .apart-from-earlier .ensures) (c .if1 .left))
-
-returns-2 : tie.Need-returns-2 Inv-loop μ-loop
-returns-2 c = all-passed (c .before .loop .inv) (omega arith)
+returns : tie.Need-returns
+returns c = c .points-apart .ensures ∙ all-behind (now (c .before .before .before .args .image)) (c .before .before .before .args .count)
 
 pub records-apart-spec : {M : Type 1} → statement M
 records-apart-spec =
     tie.close
     (tie.spec
-    Inv-loop
-    μ-loop
-    loop-holds
-    apart-from-earlier-requires
-    returns
-    add-j
-    loop-less
-    loop-again
-    returns-2)
+    sub-points-apart
+    part-points-apart-start
+    part-points-apart-end
+    points-apart-requires
+    returns)
