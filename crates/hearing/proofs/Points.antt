@@ -27,7 +27,7 @@ use Rattle.arriving.proofs.OfPoints.{lent-block}
 use Rattle.checking.specs.Points.{above}
 use Rattle.checking.proofs.Ahead.{above-is}
 use Rattle.replying.proofs.Judging.{own-lent}
-use Rattle.reply_form.specs.Parts.{point-of}
+use Rattle.apart.specs.Apart.{point-of}
 use Rattle.reply_form.proofs.Points.{points-are}
 use Rattle.hearing.specs.Heard.{AllLaid, reply-in}
 

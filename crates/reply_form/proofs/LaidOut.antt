@@ -28,7 +28,8 @@ use Rattle.record_edits.proofs.Edits.{stored-laid}
 use Rattle.merging.proofs.Slots.{few-slots}
 use Rattle.arriving.specs.Sent.{points-in, Few}
 use Rattle.arriving.proofs.OfPoints.{block-small, block-size}
-use Rattle.reply_form.specs.Parts.{point-of, point-laid-out, points-laid-out}
+use Rattle.apart.specs.Apart.{point-of}
+use Rattle.reply_form.specs.Parts.{point-laid-out, points-laid-out}
 use Rattle.reply_form.proofs.Points.{block-is, at-least, at-most, count-is, rest-size, points-are}
 
 -- ---- the points, one block after the other

@@ -3,7 +3,7 @@ use Prim.Native.Nat.{ℕ, _+_, _*_, _-_, _/_, _<_}
 use mathlib.Core.Path.{_≡_, refl, ap, ap₂, sym, _∙_, subst}
 use mathlib.Core.Bool.{Bool, true}
 use mathlib.Core.List.{List}
-use lib.ListN.{length, take, drop}
+use lib.ListN.{length}
 use Rattle.numbers.specs.declared.Key.{Key}
 use Rattle.numbers.specs.Words.{every, ascends?, same-list}
 use Rattle.numbers.specs.Key.{key-before}
@@ -23,16 +23,13 @@ use Rattle.layout.specs.Messages.{checks-right}
 use Rattle.record.specs.Crewed.{crewed}
 use Rattle.record.proofs.Formed.{neighbours}
 use Rattle.record.proofs.Questions.{formed-crewed}
-use Rattle.image.specs.Apart.{apart}
+use Rattle.apart.specs.Apart.{point-of, apart-from-earlier}
+use Rattle.apart.proofs.Lent.{lent}
 use Rattle.image.proofs.InOrder.{pairs-agree}
 use Rattle.arriving.specs.Sent.{points-in}
-use Rattle.reply_form.specs.Parts.{point-of, point-laid-out, points-laid-out, each-formed, each-covered, apart-from-earlier, all-apart}
+use Rattle.reply_form.specs.Parts.{point-laid-out, points-laid-out, each-formed, each-covered, all-apart}
 
--- the i-th block, as it is lent
-abbrev pub lent : List ℕ → ℕ → List ℕ
-lent run i = take (512 * i + 512 - 512 * i) (drop (512 * i) run)
-
--- what a test said of it
+-- what a test said of the i-th block, as it is lent
 pub of-lent : (run : List ℕ) (f : List ℕ → Bool) (i : ℕ) {r : Bool} → r ≡ f (lent run i) → r ≡ f (block-at run i)
 unfolding block-at
 of-lent run f i e = e ∙ ap f (part-is run (512 * i) 512)
@@ -87,14 +84,6 @@ pub keys-tests : (run : List ℕ) → every (upto (length run / 512 - 1) (λ i. 
 keys-tests run = neighbours stored-before stored-order (length run / 512) (point-of run)
 
 -- ---- each point against those before it
-
-pub apart-lent : (run : List ℕ) (i j : ℕ) {r : Bool} → r ≡ apart (decode-stored form-1 (lent run i)) (decode-stored form-1 (lent run j)) → r ≡ apart (point-of run i) (point-of run j)
-unfolding block-at
-apart-lent run i j e = e ∙ ap₂ (λ (a b : List ℕ). apart (decode-stored form-1 a) (decode-stored form-1 b)) (part-is run (512 * i) 512) (part-is run (512 * j) 512)
-
-pub earlier-tests : (run : List ℕ) (j : ℕ) → every (upto j (λ i. apart (point-of run i) (point-of run j))) ≡ apart-from-earlier run j
-unfolding apart-from-earlier
-earlier-tests run j = refl
 
 pub apart-tests : (run : List ℕ) → ascends? stored-before (points-in run) ≡ true → every (upto (length run / 512) (apart-from-earlier run)) ≡ all-apart (points-in run)
 unfolding apart-from-earlier

@@ -16,7 +16,7 @@ use Rattle.layout.specs.PointBlock.{form-1, decode-stored}
 use Rattle.layout.specs.Messages.{decode-reply}
 use Rattle.layout.specs.Calls.{reply-room, whole-reply}
 use Rattle.arriving.specs.Sent.{points-in}
-use Rattle.reply_form.specs.Parts.{point-of}
+use Rattle.apart.specs.Apart.{point-of}
 
 -- the blocks after the first
 pub block-is : (run : List ℕ) (i : ℕ) → block-at (drop 512 run) i ≡ block-at run (1 + i)

@@ -11,12 +11,8 @@ use Rattle.meaning.specs.Clock.{Clock}
 use Rattle.meaning.specs.Context.{fill-context}
 use Rattle.meaning.specs.State.{Stored, stored-before, dots-of}
 use Rattle.meaning.specs.Message.{point-formed, covers-all, dots-agree}
-use Rattle.layout.specs.PointBlock.{form-1, encode-stored, decode-stored}
-use Rattle.image.specs.Apart.{apart}
-
--- the i-th point of a run of blocks
-abbrev pub point-of : List ℕ → ℕ → Stored
-point-of run i = decode-stored form-1 (block-at run i)
+use Rattle.layout.specs.PointBlock.{form-1, encode-stored}
+use Rattle.apart.specs.Apart.{point-of}
 
 -- "a reply's head is 0 and its points follow from 1"
 unfoldable pub point-laid-out : List ℕ → ℕ → Bool
@@ -32,10 +28,6 @@ each-formed t ps = all? (λ p. point-formed t (p .key) (p .object)) ps
 -- each version is covered by its context once that is filled with these rows
 abbrev pub each-covered : CrewTable → Clock → List Stored → Bool
 each-covered t k ps = all? (λ p. covers-all (fill-context t (p .key .job) k (p .object .context)) (p .object .versions)) ps
-
--- the j-th point shares no dot with one before it
-unfoldable pub apart-from-earlier : List ℕ → ℕ → Bool
-apart-from-earlier run j = every (upto j (λ i. apart (point-of run i) (point-of run j)))
 
 -- no dot stands in two of them
 abbrev pub all-apart : List Stored → Bool

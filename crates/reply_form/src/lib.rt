@@ -10,7 +10,7 @@ ghost use Rattle.layout.specs.Clocks.{decode-clock};
 ghost use Rattle.layout.specs.Messages.{checks-right, decode-reply, laid-out-reply};
 ghost use Rattle.layout.specs.Calls.{whole-reply};
 ghost use Rattle.arriving.specs.Sent.{points-in, Few};
-ghost use Rattle.reply_form.specs.Parts.{points-laid-out, each-formed, each-covered, apart-from-earlier, all-apart, points-formed};
+ghost use Rattle.reply_form.specs.Parts.{points-laid-out, each-formed, each-covered, all-apart, points-formed};
 
 // 3: "a message block's check is wrong", in none of its blocks.
 pub fn reply_sealed(reply: &[u8]) -> bool
@@ -115,37 +115,12 @@ fn keys_ascend(points: &[u8]) -> bool
     true
 }
 
-// The j-th point shares no dot with one before it.
-fn apart_from_earlier(points: &[u8], j: usize) -> bool
-    requires { ⌜ Few (now points) × (j < length (now points) / 512) ⌝ }
-    ensures { λ r. ⌜ r ≡ apart-from-earlier (now (points .entry)) j ⌝ }
-{
-    let there = 512 * j;
-    let mut i: usize = 0;
-    while i < j {
-        let at = 512 * i;
-        if !image::shares_none(&points[at..at + 512], &points[there..there + 512]) {
-            return false;
-        }
-        i += 1;
-    }
-    true
-}
-
 // No dot stands in two points: keys that ascend are all different, so no two points may share one.
 fn all_apart(points: &[u8]) -> bool
     requires { ⌜ Few (now points) × (ascends? stored-before (points-in (now points)) ≡ true) ⌝ }
     ensures { λ r. ⌜ r ≡ all-apart (points-in (now (points .entry))) ⌝ }
 {
-    let many = points.len() / 512;
-    let mut j: usize = 0;
-    while j < many {
-        if !apart_from_earlier(points, j) {
-            return false;
-        }
-        j += 1;
-    }
-    true
+    apart::points_apart(points, points.len() / 512)
 }
 
 // What is asked of the points of a reply, in an order in which each test has what it needs: cover is asked of versions that name controllers, and dots

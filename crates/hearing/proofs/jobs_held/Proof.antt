@@ -11,7 +11,7 @@ use Rattle.meaning.specs.State.{Stored}
 use Rattle.meaning.specs.Exchange.{both-hold}
 use Rattle.layout.specs.Image.{decode}
 use Rattle.arriving.proofs.OfPoints.{lent-size}
-use Rattle.reply_form.specs.Parts.{point-of}
+use Rattle.apart.specs.Apart.{point-of}
 use Rattle.hearing.proofs.Points.{point-tested, not-all, each-one}
 use denote.Ref.{now}
 use native.Mathlib.Omega.{arith}

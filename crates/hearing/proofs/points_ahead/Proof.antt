@@ -17,7 +17,7 @@ use Rattle.arriving.specs.Sent.{points-in}
 use Rattle.arriving.proofs.OfPoints.{lent-size, lent-few}
 use Rattle.checking.proofs.Looking.{Without, found, not-yet, nowhere}
 use Rattle.replying.proofs.Judging.{own-lent}
-use Rattle.reply_form.specs.Parts.{point-of}
+use Rattle.apart.specs.Apart.{point-of}
 use Rattle.hearing.proofs.Points.{point-tested, above-lent}
 use denote.Ref.{now}
 use native.Mathlib.Omega.{arith}

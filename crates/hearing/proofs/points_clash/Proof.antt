@@ -15,7 +15,7 @@ use Rattle.layout.specs.Image.{decode}
 use Rattle.arriving.specs.Sent.{points-in}
 use Rattle.arriving.proofs.OfPoints.{lent-size}
 use Rattle.checking.proofs.Looking.{Without, found, not-yet, nowhere}
-use Rattle.reply_form.specs.Parts.{point-of}
+use Rattle.apart.specs.Apart.{point-of}
 use Rattle.hearing.proofs.Points.{point-tested, lent-laid}
 use denote.Ref.{now}
 use native.Mathlib.Omega.{arith}

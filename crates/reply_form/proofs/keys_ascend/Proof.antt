@@ -7,7 +7,7 @@ use Rattle.block.proofs.Numbers.{bytes-of}
 use Rattle.block.proofs.Passing.{Passing, none-passed, one-more, one-fails, all-passed, said-no, said-yes}
 use Rattle.meaning.specs.State.{stored-before}
 use Rattle.arriving.proofs.OfPoints.{lent-size}
-use Rattle.reply_form.specs.Parts.{point-of}
+use Rattle.apart.specs.Apart.{point-of}
 use Rattle.reply_form.proofs.Loops.{keys-lent, keys-tests}
 use denote.Ref.{now}
 use native.Mathlib.Omega.{arith}
