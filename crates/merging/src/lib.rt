@@ -38,28 +38,12 @@ pub fn filled_context(stored: &[u8], job: u8, table: &[u8], rows: &[u8], out: &m
     }
 }
 
-// One of the message's versions has this dot.
-fn carries(m: &[u8], d: Dot) -> bool
-    requires { ⌜ (length (now m) ≡ 512) × (field (now m) 5 1 ≤ 8) ⌝ }
-    ensures { λ r. ⌜ r ≡ has-dot (decode-point form-1 (now (m .entry)) .object .versions) d ⌝ }
-{
-    let count = record::version_count(m) as usize;
-    let mut i: usize = 0;
-    while i < count {
-        if d.same(record::version_dot(m, i)) {
-            return true;
-        }
-        i += 1;
-    }
-    false
-}
-
 // "Merge keeps the versions in both objects and those in one that the other's context does not cover": whether the version of this dot stays.
 fn survives(d: Dot, m: &[u8], there: &[u32]) -> bool
     requires { ⌜ Crew (d .who) × (length (now m) ≡ 512) × (field (now m) 5 1 ≤ 8) × (length (now there) ≡ 8) ⌝ }
     ensures { λ r. ⌜ r ≡ (has-dot (decode-point form-1 (now (m .entry)) .object .versions) d || not (covers (map counter (now (there .entry))) d)) ⌝ }
 {
-    if carries(m, d) {
+    if apart::has_version(m, d) {
         return true;
     }
     !object::given_covers(there, d)

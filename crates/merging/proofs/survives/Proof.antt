@@ -5,13 +5,13 @@ use denote.Ref.{now}
 use Rattle.merging.proofs.survives.Statement.{statement}
 use Rattle.merging.proofs.survives.Tie as tie
 
-carries-requires : tie.Need-carries-requires
-carries-requires c κs = search needs
+has-version-requires : tie.Need-has-version-requires
+has-version-requires c κs = search needs
 
 returns : tie.Need-returns
 returns c =
     let a = c .before .before .before .before .args in
-    stays-both (now (a .m)) (now (a .there)) (a .d) (c .before .carries .ensures) (c .if1 .taken)
+    stays-both (now (a .m)) (now (a .there)) (a .d) (c .before .has-version .ensures) (c .if1 .taken)
 
 given-covers-requires : tie.Need-given-covers-requires
 given-covers-requires c κs = search needs
@@ -19,7 +19,7 @@ given-covers-requires c κs = search needs
 returns-2 : tie.Need-returns-2
 returns-2 c =
     let a = c .before .before .before .before .before .args in
-    stays-alone (now (a .m)) (now (a .there)) (a .d) (c .before .before .carries .ensures) (c .before .if1 .left) (c .given-covers .ensures)
+    stays-alone (now (a .m)) (now (a .there)) (a .d) (c .before .before .has-version .ensures) (c .before .if1 .left) (c .given-covers .ensures)
 
 pub survives-spec : {M : Type 1} → statement M
-survives-spec = tie.close (tie.spec carries-requires returns given-covers-requires returns-2)
+survives-spec = tie.close (tie.spec has-version-requires returns given-covers-requires returns-2)
