@@ -1,10 +1,9 @@
 -- A message's versions against all records and both lists: the tests are turned round, and stand for refusal 10. Assumes nothing.
-use Prim.Native.Nat.{ℕ, _+_, _*_, _-_}
+use Prim.Native.Nat.{ℕ}
 use mathlib.Core.Path.{_≡_, refl, ap, ap₂, sym, _∙_, subst}
 use mathlib.Core.Logic.{⊎-elim}
 use mathlib.Core.Bool.{Bool, true, false, _&&_, _||_, not}
 use mathlib.Core.List.{List, [], _∷_, _++_, List·Memᴰ·append-cases}
-use lib.ListN.{take, drop}
 use borrow.Author.Tests.{not-true, not-false}
 use Rattle.numbers.specs.declared.Dot.{Dot}
 use Rattle.numbers.specs.declared.Key.{Key}
@@ -20,8 +19,7 @@ use Rattle.meaning.specs.State.{Stored, Listed, listed-before, State, listed}
 use Rattle.meaning.specs.Exchange.{clashes}
 use Rattle.layout.specs.PointBlock.{form-1, decode-point, decode-stored}
 use Rattle.layout.specs.Image.{decode-dots, decode, goodImage}
-use Rattle.image.specs.Apart.{point-at, listed-for}
-use Rattle.apart.proofs.Lent.{block-part}
+use Rattle.image.specs.Apart.{listed-for}
 use Rattle.store.proofs.Lent.{good-now}
 use Rattle.store.proofs.ListsLent.{own-list, foreign-list}
 use Rattle.checking.specs.Points.{versions-clash, record-clashes, list-clashes}
@@ -48,12 +46,6 @@ some-either f g (x ∷ xs) = ap (λ (t : Bool). (f x || g x) || t) (some-either 
     regroup false true true d = refl
     regroup false true false d = refl
     regroup false false c d = refl
-
--- ---- the record as it is lent
-
-pub record-lent : (img : List ℕ) (i : ℕ) (k : Key) (vs : List Version) (r t : Bool)
-    → r ≡ some? (record-clashes k (decode-stored form-1 (take (512 * (3 + i) + 512 - 512 * (3 + i)) (drop (512 * (3 + i)) img)))) vs → r ≡ t → some? (record-clashes k (point-at img i)) vs ≡ t
-record-lent img i k vs r t e q = sym (ap (λ (b : List ℕ). some? (record-clashes k (decode-stored form-1 b)) vs) (block-part img (3 + i))) ∙ sym e ∙ q
 
 -- ---- the lists as they are lent
 

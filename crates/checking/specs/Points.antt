@@ -1,17 +1,17 @@
 -- What rows 9 and 10 of the table ask of one point of a message. Assumes nothing.
 use Prim.Native.Nat.{ℕ}
-use mathlib.Core.Bool.{Bool, _&&_, _||_, not}
+use mathlib.Core.Bool.{Bool, true, _&&_, _||_, not}
 use mathlib.Core.List.{List}
 use lib.Dec.{ltb}
 use Rattle.numbers.specs.declared.Controller.{Controller}
 use Rattle.numbers.specs.declared.Dot.{Dot}
 use Rattle.numbers.specs.declared.Key.{Key}
-use Rattle.numbers.specs.Words.{some?}
+use Rattle.numbers.specs.Words.{if_then_else_, some?}
 use Rattle.numbers.specs.Numbers.{same-controller}
 use Rattle.numbers.specs.Dot.{same-dot}
 use Rattle.numbers.specs.Key.{same-key}
 use Rattle.meaning.specs.Context.{entry}
-use Rattle.meaning.specs.Object.{same-contents, Version, Object}
+use Rattle.meaning.specs.Object.{same-contents, Version, Object, has-dot}
 use Rattle.meaning.specs.State.{Stored, Listed}
 
 -- an own counter above our base
@@ -29,6 +29,14 @@ versions-clash same v w = same-dot (v .dot) (w .dot) && not (same && same-conten
 -- 10: "a version's dot in the message is stored here with other contents, or stored .. here for another point", in one record
 unfoldable pub record-clashes : Key → Stored → Version → Bool
 record-clashes k p v = some? (versions-clash (same-key k (p .key)) v) (p .object .versions)
+
+-- some record has a version of this dot
+abbrev pub stored-somewhere : List Stored → Dot → Bool
+stored-somewhere ps d = some? (λ p. has-dot (p .object .versions) d) ps
+
+-- the same of a version and all the records ps, where ws is what is stored for its point and, as "no dot stands in two records", has its dots alone
+unfoldable pub clashes-beside : List Stored → List Version → Version → Bool
+clashes-beside ps ws v = if has-dot ws (v .dot) then some? (versions-clash true v) ws else stored-somewhere ps (v .dot)
 
 -- 10: ".. or listed here for another point"
 unfoldable pub list-clashes : Key → List Listed → Version → Bool

@@ -1,25 +1,27 @@
 // The checks of a message's point, on the lent bytes alone, before anything of it is taken in: rows 3 to 6, 9 and 10 of the table.
+use dots::Found;
 use numbers::Controller;
 use numbers::Dot;
 use refusal::Refusal;
 use refusal::Verdict;
 ghost use mathlib.Core.Path.{_≡_};
-ghost use mathlib.Core.Bool.{true};
+ghost use mathlib.Core.Bool.{true, not};
 ghost use Prim.Native.Nat.{_+_, _*_, _≤_, _<_};
 ghost use lib.ListN.{length};
-ghost use Rattle.numbers.specs.Words.{some?};
+ghost use Rattle.numbers.specs.Words.{some?, ascends?};
 ghost use Rattle.numbers.specs.Numbers.{Crew};
 ghost use Rattle.refusal.specs.Refusal.{verdict-of};
 ghost use Rattle.block.specs.Fields.{cut, field};
 ghost use Rattle.block.specs.Block.{Laid};
+ghost use Rattle.meaning.specs.Object.{same-contents, version-before};
 ghost use Rattle.meaning.specs.State.{listed};
 ghost use Rattle.meaning.specs.Message.{outgoing-formed};
 ghost use Rattle.meaning.specs.Exchange.{both-hold, ahead-of-us, clashes};
-ghost use Rattle.layout.specs.PointBlock.{form-1, decode-slot, decode-point, decode-stored};
+ghost use Rattle.layout.specs.PointBlock.{form-1, decode-slot, decode-point};
 ghost use Rattle.layout.specs.Image.{image-length, decode, goodImage};
 ghost use Rattle.layout.specs.Messages.{decode-outgoing};
 ghost use Rattle.record_edits.specs.Written.{lay-point, point-block};
-ghost use Rattle.checking.specs.Points.{dot-above, above, versions-clash, record-clashes, list-clashes};
+ghost use Rattle.checking.specs.Points.{dot-above, above, record-clashes, stored-somewhere, clashes-beside, list-clashes};
 ghost use Rattle.checking.specs.Judged.{outgoing-judged, message-judged};
 
 // ---- 9: "message names, in a dot, context or clock row, an own counter above our base: our history is lost"
@@ -63,34 +65,28 @@ pub fn ahead_of_us(b: &[u8], own: Controller, base: u32) -> bool
 
 // ---- 10: "a version's dot in the message is stored here with other contents, or stored or listed here for another point"
 
-// Version j of the message's block b and version i of the record p, which is the same point's or another's. Slots that are laid out hold the
-// same bytes just where they say the same.
-fn slots_clash(b: &[u8], j: usize, p: &[u8], i: usize, same: bool) -> bool
+// Version j of the message's block b and version i of the record p, of one dot. Slots that are laid out hold the same bytes just where they say
+// the same.
+fn slots_differ(b: &[u8], j: usize, p: &[u8], i: usize) -> bool
     requires { ⌜ (length (now b) ≡ 512) × Laid lay-point point-block (now b) × (j < field (now b) 5 1)
-        × (length (now p) ≡ 512) × Laid lay-point point-block (now p) × (i < field (now p) 5 1) ⌝ }
-    ensures { λ r. ⌜ r ≡ versions-clash same (decode-slot form-1 (cut (now (b .entry)) (40 + 32 * j) 32)) (decode-slot form-1 (cut (now (p .entry)) (40 + 32 * i) 32)) ⌝ }
+        × (length (now p) ≡ 512) × Laid lay-point point-block (now p) × (i < field (now p) 5 1)
+        × (decode-slot form-1 (cut (now b) (40 + 32 * j) 32) .dot ≡ decode-slot form-1 (cut (now p) (40 + 32 * i) 32) .dot) ⌝ }
+    ensures { λ r. ⌜ r ≡ not (same-contents (decode-slot form-1 (cut (now (b .entry)) (40 + 32 * j) 32) .contents) (decode-slot form-1 (cut (now (p .entry)) (40 + 32 * i) 32) .contents)) ⌝ }
 {
-    if !record::version_dot(b, j).same(record::version_dot(p, i)) {
-        return false;
-    }
-    if !same {
-        return true;
-    }
     let from = 40 + 32 * j;
     let at = 40 + 32 * i;
     !block::same_bytes(&b[from..from + 32], &p[at..at + 32])
 }
 
-// Version j of the message's block b and each version of the record p.
-fn version_clashes(b: &[u8], j: usize, p: &[u8], same: bool) -> bool
-    requires { ⌜ (length (now b) ≡ 512) × Laid lay-point point-block (now b) × (j < field (now b) 5 1)
-        × (length (now p) ≡ 512) × Laid lay-point point-block (now p) ⌝ }
-    ensures { λ r. ⌜ r ≡ some? (versions-clash same (decode-slot form-1 (cut (now (b .entry)) (40 + 32 * j) 32))) (decode-point form-1 (now (p .entry)) .object .versions) ⌝ }
+// Some record has a version of this dot.
+fn stored_somewhere(image: &[u8], count: usize, d: Dot) -> bool
+    requires { ⌜ (length (now image) ≡ image-length) × (goodImage (now image) ≡ true) × (count ≡ length (decode (now image) .points)) ⌝ }
+    ensures { λ r. ⌜ r ≡ stored-somewhere (decode (now (image .entry)) .points) d ⌝ }
 {
-    let count = record::version_count(p) as usize;
     let mut i: usize = 0;
     while i < count {
-        if slots_clash(b, j, p, i, same) {
+        let at = 512 * (3 + i);
+        if image::has_version(&image[at..at + 512], d) {
             return true;
         }
         i += 1;
@@ -98,16 +94,29 @@ fn version_clashes(b: &[u8], j: usize, p: &[u8], same: bool) -> bool
     false
 }
 
-// Each version of the message's block b and the record p.
-fn record_clashes(b: &[u8], p: &[u8]) -> bool
-    requires { ⌜ (length (now b) ≡ 512) × Laid lay-point point-block (now b) × (length (now p) ≡ 512) × Laid lay-point point-block (now p) ⌝ }
-    ensures { λ r. ⌜ r ≡ some? (record-clashes (decode-point form-1 (now (b .entry)) .key) (decode-stored form-1 (now (p .entry)))) (decode-point form-1 (now (b .entry)) .object .versions) ⌝ }
+// Version j of the message's block b, whose point's record is p: no other record has a dot that p has.
+fn version_otherwise(image: &[u8], count: usize, b: &[u8], j: usize, p: &[u8]) -> bool
+    requires { ⌜ (length (now image) ≡ image-length) × (goodImage (now image) ≡ true) × (count ≡ length (decode (now image) .points)) × (length (now b) ≡ 512) × Laid lay-point point-block (now b) × (j < field (now b) 5 1)
+        × (length (now p) ≡ 512) × Laid lay-point point-block (now p) × (ascends? version-before (decode-point form-1 (now p) .object .versions) ≡ true) ⌝ }
+    ensures { λ r. ⌜ r ≡ clashes-beside (decode (now (image .entry)) .points) (decode-point form-1 (now (p .entry)) .object .versions) (decode-slot form-1 (cut (now (b .entry)) (40 + 32 * j) 32)) ⌝ }
 {
-    let same = record::key_of(b).same(record::key_of(p));
-    let count = record::version_count(b) as usize;
+    let d = record::version_dot(b, j);
+    match object::find_version(p, d) {
+        Found::At(i) => slots_differ(b, j, p, i),
+        Found::Before(_) => stored_somewhere(image, count, d),
+    }
+}
+
+// Each version of the message's block b, whose point's record is p.
+fn known_otherwise(image: &[u8], count: usize, b: &[u8], p: &[u8]) -> bool
+    requires { ⌜ (length (now image) ≡ image-length) × (goodImage (now image) ≡ true) × (count ≡ length (decode (now image) .points)) × (length (now b) ≡ 512) × Laid lay-point point-block (now b)
+        × (length (now p) ≡ 512) × Laid lay-point point-block (now p) × (ascends? version-before (decode-point form-1 (now p) .object .versions) ≡ true) ⌝ }
+    ensures { λ r. ⌜ r ≡ some? (clashes-beside (decode (now (image .entry)) .points) (decode-point form-1 (now (p .entry)) .object .versions)) (decode-point form-1 (now (b .entry)) .object .versions) ⌝ }
+{
+    let many = record::version_count(b) as usize;
     let mut j: usize = 0;
-    while j < count {
-        if version_clashes(b, j, p, same) {
+    while j < many {
+        if version_otherwise(image, count, b, j, p) {
             return true;
         }
         j += 1;
@@ -115,20 +124,34 @@ fn record_clashes(b: &[u8], p: &[u8]) -> bool
     false
 }
 
-// Each of the records.
+// Each version of the message's block b, whose point has no record: a record that has its dot is another point's.
+fn new_otherwise(image: &[u8], count: usize, b: &[u8]) -> bool
+    requires { ⌜ (length (now image) ≡ image-length) × (goodImage (now image) ≡ true) × (count ≡ length (decode (now image) .points)) × (length (now b) ≡ 512) × (field (now b) 5 1 ≤ 8) ⌝ }
+    ensures { λ r. ⌜ r ≡ some? (λ v. stored-somewhere (decode (now (image .entry)) .points) (v .dot)) (decode-point form-1 (now (b .entry)) .object .versions) ⌝ }
+{
+    let many = record::version_count(b) as usize;
+    let mut j: usize = 0;
+    while j < many {
+        if stored_somewhere(image, count, record::version_dot(b, j)) {
+            return true;
+        }
+        j += 1;
+    }
+    false
+}
+
+// Each of the records. "No dot stands in two records", so the point's own record is looked at first.
 fn stored_otherwise(image: &[u8], count: usize, b: &[u8]) -> bool
     requires { ⌜ (length (now image) ≡ image-length) × (goodImage (now image) ≡ true) × (count ≡ length (decode (now image) .points)) × (length (now b) ≡ 512) × Laid lay-point point-block (now b) ⌝ }
     ensures { λ r. ⌜ r ≡ some? (λ p. some? (record-clashes (decode-point form-1 (now (b .entry)) .key) p) (decode-point form-1 (now (b .entry)) .object .versions)) (decode (now (image .entry)) .points) ⌝ }
 {
-    let mut i: usize = 0;
-    while i < count {
-        let at = 512 * (3 + i);
-        if record_clashes(b, &image[at..at + 512]) {
-            return true;
+    match image::find_point(image, count, record::key_of(b)) {
+        Found::At(i) => {
+            let at = 512 * (3 + i);
+            known_otherwise(image, count, b, &image[at..at + 512])
         }
-        i += 1;
+        Found::Before(_) => new_otherwise(image, count, b),
     }
-    false
 }
 
 // Both lists.

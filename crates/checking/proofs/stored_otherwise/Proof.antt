@@ -1,121 +1,82 @@
--- `checking::stored_otherwise` meets its contract. The invariant: none of the records before i clashes (Looking, Otherwise). Assumes nothing.
+-- `checking::stored_otherwise` meets its contract. By the point's record, or by none (HomeLent). Assumes nothing.
 use borrow.Author.Needs.{needs}
-use Prim.Native.Nat.{_-_}
-use mathlib.Core.Bool.{not}
-use Rattle.numbers.specs.Words.{some?}
+use mathlib.Core.Path.{subst}
+use Rattle.numbers.specs.declared.Key.{Key}
+use Rattle.block.specs.Fields.{upto}
 use Rattle.block.proofs.Numbers.{bytes-of}
-use Rattle.block.proofs.Passing.{none-passed}
-use Rattle.meaning.specs.State.{Stored}
 use Rattle.layout.specs.PointBlock.{form-1, decode-point}
-use Rattle.layout.specs.Image.{decode}
+use Rattle.dots.specs.declared.Found.the-variants.{At, Before}
+use Rattle.merging.proofs.Slots.{few-slots}
+use Rattle.image.specs.Places.{Point-in}
 use Rattle.image.specs.Apart.{point-at}
 use Rattle.image.proofs.Counted.{points-few}
-use Rattle.store.proofs.Lent.{good-canonical}
+use Rattle.image_edits.proofs.Fetching.{search-ascends, search-few}
+use Rattle.store.proofs.Lent.{good-ascends, good-canonical}
 use Rattle.store.proofs.Stripped.{record-laid, record-size}
-use Rattle.checking.specs.Points.{record-clashes}
-use Rattle.checking.proofs.Looking.{Without, found, not-yet, nowhere, records-read}
-use Rattle.checking.proofs.Otherwise.{record-lent}
+use Rattle.store.proofs.Resulting.{found-is}
+use Rattle.checking.proofs.HomeLent.{home-ascends, known-clash, new-clash}
 use denote.Ref.{now}
 use native.Mathlib.Omega.{arith}
 use Rattle.checking.proofs.stored_otherwise.Statement.{statement}
 use Rattle.checking.proofs.stored_otherwise.Tie as tie
 
-abbrev Inv-loop : tie.InvT-loop
-Inv-loop image count b i₀ i = Without (λ (p : Stored). some? (record-clashes (decode-point form-1 b .key) p) (decode-point form-1 b .object .versions)) (point-at image) count i
+key-of-requires : tie.Need-key-of-requires
+key-of-requires c κs = search needs
 
-abbrev μ-loop : tie.MeasureT-loop
-μ-loop image count b i₀ i = count - i
+find-point-requires : tie.Need-find-point-requires
+find-point-requires c κs = (c .before .before .before .pre .0, search-few (now (c .before .before .before .args .image)) (bytes-of (now (c .before .before .before .args .image)) (c .before .before .shared-slice-known .given)) (c .before .before .before .pre .0) (good-canonical (now (c .before .before .before .args .image)) (c .before .before .before .pre .1)) (c .before .before .before .args .count) (c .before .before .before .pre .2), search-ascends (now (c .before .before .before .args .image)) (bytes-of (now (c .before .before .before .args .image)) (c .before .before .shared-slice-known .given)) (c .before .before .before .pre .0) (good-canonical (now (c .before .before .before .args .image)) (c .before .before .before .pre .1)) (c .before .before .before .args .count) (c .before .before .before .pre .2) (good-ascends (now (c .before .before .before .args .image)) (c .before .before .before .pre .1)))
 
-loop-holds : tie.Need-loop-holds Inv-loop μ-loop
-loop-holds c =
-    let a = c .before .before .args in
-    let b = now (a .b) in
-    none-passed (a .count) (λ k. not (some? (record-clashes (decode-point form-1 b .key) (point-at (now (a .image)) k)) (decode-point form-1 b .object .versions)))
+enum-known-i : tie.Need-enum-known-i
+enum-known-i c = search needs
 
-add-at : tie.Need-add-at Inv-loop μ-loop
-add-at c =
-    let r = c .before .before .before .before .pre in
-    omega (arith, points-few (now (c .before .before .before .before .args .image)), r .2, r .0)
+add-at : tie.Need-add-at
+add-at c = omega (arith, c .before .before .before .before .before .before .before .pre .0, (found-is (now (c .before .before .before .before .before .before .before .args .image)) (bytes-of (now (c .before .before .before .before .before .before .before .args .image)) (c .before .before .before .before .before .before .shared-slice-known .given)) (c .before .before .before .before .before .before .before .pre .0) (good-canonical (now (c .before .before .before .before .before .before .before .args .image)) (c .before .before .before .before .before .before .before .pre .1)) (c .before .before .before .before .before .before .before .args .count) (c .before .before .before .before .before .before .before .pre .2) (decode-point form-1 (now (c .before .before .before .before .before .before .before .args .b)) .key) (c .before .before .before .find-point .result) (subst (λ (x : Key). Point-in (upto (c .before .before .before .before .before .before .before .args .count) (point-at (now (c .before .before .before .before .before .before .before .args .image)))) x (c .before .before .before .find-point .result)) (c .before .before .before .before .key-of .ensures) (c .before .before .before .find-point .ensures)) (At (c .before .i .given .0 .0)) (c .before .i .given .1)) .0, points-few (now (c .before .before .before .before .before .before .before .args .image)))
 
-mul-at : tie.Need-mul-at Inv-loop μ-loop
-mul-at c =
-    let r = c .before .before .before .before .pre in
-    omega (arith, points-few (now (c .before .before .before .before .args .image)), r .2, r .0)
+mul-at : tie.Need-mul-at
+mul-at c = omega (arith, c .before .before .before .before .before .before .before .pre .0, (found-is (now (c .before .before .before .before .before .before .before .args .image)) (bytes-of (now (c .before .before .before .before .before .before .before .args .image)) (c .before .before .before .before .before .before .shared-slice-known .given)) (c .before .before .before .before .before .before .before .pre .0) (good-canonical (now (c .before .before .before .before .before .before .before .args .image)) (c .before .before .before .before .before .before .before .pre .1)) (c .before .before .before .before .before .before .before .args .count) (c .before .before .before .before .before .before .before .pre .2) (decode-point form-1 (now (c .before .before .before .before .before .before .before .args .b)) .key) (c .before .before .before .find-point .result) (subst (λ (x : Key). Point-in (upto (c .before .before .before .before .before .before .before .args .count) (point-at (now (c .before .before .before .before .before .before .before .args .image)))) x (c .before .before .before .find-point .result)) (c .before .before .before .before .key-of .ensures) (c .before .before .before .find-point .ensures)) (At (c .before .i .given .0 .0)) (c .before .i .given .1)) .0, points-few (now (c .before .before .before .before .before .before .before .args .image)))
 
-add-record-clashes : tie.Need-add-record-clashes Inv-loop μ-loop
-add-record-clashes c =
-    let r = c .before .before .before .before .pre in
-    omega (arith, points-few (now (c .before .before .before .before .args .image)), r .2, r .0)
+add-known-otherwise : tie.Need-add-known-otherwise
+add-known-otherwise c = omega (arith, c .before .before .before .before .before .before .before .pre .0, (found-is (now (c .before .before .before .before .before .before .before .args .image)) (bytes-of (now (c .before .before .before .before .before .before .before .args .image)) (c .before .before .before .before .before .before .shared-slice-known .given)) (c .before .before .before .before .before .before .before .pre .0) (good-canonical (now (c .before .before .before .before .before .before .before .args .image)) (c .before .before .before .before .before .before .before .pre .1)) (c .before .before .before .before .before .before .before .args .count) (c .before .before .before .before .before .before .before .pre .2) (decode-point form-1 (now (c .before .before .before .before .before .before .before .args .b)) .key) (c .before .before .before .find-point .result) (subst (λ (x : Key). Point-in (upto (c .before .before .before .before .before .before .before .args .count) (point-at (now (c .before .before .before .before .before .before .before .args .image)))) x (c .before .before .before .find-point .result)) (c .before .before .before .before .key-of .ensures) (c .before .before .before .find-point .ensures)) (At (c .before .i .given .0 .0)) (c .before .i .given .1)) .0, points-few (now (c .before .before .before .before .before .before .before .args .image)))
 
-sub-record-clashes : tie.Need-sub-record-clashes Inv-loop μ-loop
-sub-record-clashes c =
-    let r = c .before .before .before .before .pre in
-    omega (arith, points-few (now (c .before .before .before .before .args .image)), r .2, r .0)
+sub-known-otherwise : tie.Need-sub-known-otherwise
+sub-known-otherwise c = search needs
 
-part-record-clashes-start : tie.Need-part-record-clashes-start Inv-loop μ-loop
-part-record-clashes-start c =
-    let r = c .before .before .before .before .pre in
-    omega (arith, points-few (now (c .before .before .before .before .args .image)), r .2, r .0)
+part-known-otherwise-start : tie.Need-part-known-otherwise-start
+part-known-otherwise-start c = search needs
 
-part-record-clashes-end : tie.Need-part-record-clashes-end Inv-loop μ-loop
-part-record-clashes-end c =
-    let r = c .before .before .before .before .pre in
-    omega (arith, points-few (now (c .before .before .before .before .args .image)), r .2, r .0)
+part-known-otherwise-end : tie.Need-part-known-otherwise-end
+part-known-otherwise-end c = omega (arith, c .before .before .before .before .before .before .before .pre .0, (found-is (now (c .before .before .before .before .before .before .before .args .image)) (bytes-of (now (c .before .before .before .before .before .before .before .args .image)) (c .before .before .before .before .before .before .shared-slice-known .given)) (c .before .before .before .before .before .before .before .pre .0) (good-canonical (now (c .before .before .before .before .before .before .before .args .image)) (c .before .before .before .before .before .before .before .pre .1)) (c .before .before .before .before .before .before .before .args .count) (c .before .before .before .before .before .before .before .pre .2) (decode-point form-1 (now (c .before .before .before .before .before .before .before .args .b)) .key) (c .before .before .before .find-point .result) (subst (λ (x : Key). Point-in (upto (c .before .before .before .before .before .before .before .args .count) (point-at (now (c .before .before .before .before .before .before .before .args .image)))) x (c .before .before .before .find-point .result)) (c .before .before .before .before .key-of .ensures) (c .before .before .before .find-point .ensures)) (At (c .before .i .given .0 .0)) (c .before .i .given .1)) .0, points-few (now (c .before .before .before .before .before .before .before .args .image)))
 
-record-clashes-requires : tie.Need-record-clashes-requires Inv-loop μ-loop
-record-clashes-requires c κs =
-    let a = c .before .before .before .before .before .args in
-    let r = c .before .before .before .before .before .pre in
-    let l = c .before .before .loop in
-    let image = now (a .image) in
-    (r .3, r .4, record-size image (bytes-of image (c .before .before .before .before .shared-slice-known .given)) (r .0) (good-canonical image (r .1)) (l .i) (omega (arith, r .2)), record-laid image (bytes-of image (c .before .before .before .before .shared-slice-known .given)) (r .0) (good-canonical image (r .1)) (l .i) (omega (arith, r .2)))
+known-otherwise-requires : tie.Need-known-otherwise-requires
+known-otherwise-requires c κs = (c .before .before .before .before .before .before .before .before .pre .0, c .before .before .before .before .before .before .before .before .pre .1, c .before .before .before .before .before .before .before .before .pre .2, c .before .before .before .before .before .before .before .before .pre .3, c .before .before .before .before .before .before .before .before .pre .4, record-size (now (c .before .before .before .before .before .before .before .before .args .image)) (bytes-of (now (c .before .before .before .before .before .before .before .before .args .image)) (c .before .before .before .before .before .before .before .shared-slice-known .given)) (c .before .before .before .before .before .before .before .before .pre .0) (good-canonical (now (c .before .before .before .before .before .before .before .before .args .image)) (c .before .before .before .before .before .before .before .before .pre .1)) (c .before .before .i .given .0 .0) ((found-is (now (c .before .before .before .before .before .before .before .before .args .image)) (bytes-of (now (c .before .before .before .before .before .before .before .before .args .image)) (c .before .before .before .before .before .before .before .shared-slice-known .given)) (c .before .before .before .before .before .before .before .before .pre .0) (good-canonical (now (c .before .before .before .before .before .before .before .before .args .image)) (c .before .before .before .before .before .before .before .before .pre .1)) (c .before .before .before .before .before .before .before .before .args .count) (c .before .before .before .before .before .before .before .before .pre .2) (decode-point form-1 (now (c .before .before .before .before .before .before .before .before .args .b)) .key) (c .before .before .before .before .find-point .result) (subst (λ (x : Key). Point-in (upto (c .before .before .before .before .before .before .before .before .args .count) (point-at (now (c .before .before .before .before .before .before .before .before .args .image)))) x (c .before .before .before .before .find-point .result)) (c .before .before .before .before .before .key-of .ensures) (c .before .before .before .before .find-point .ensures)) (At (c .before .before .i .given .0 .0)) (c .before .before .i .given .1)) .0), record-laid (now (c .before .before .before .before .before .before .before .before .args .image)) (bytes-of (now (c .before .before .before .before .before .before .before .before .args .image)) (c .before .before .before .before .before .before .before .shared-slice-known .given)) (c .before .before .before .before .before .before .before .before .pre .0) (good-canonical (now (c .before .before .before .before .before .before .before .before .args .image)) (c .before .before .before .before .before .before .before .before .pre .1)) (c .before .before .i .given .0 .0) ((found-is (now (c .before .before .before .before .before .before .before .before .args .image)) (bytes-of (now (c .before .before .before .before .before .before .before .before .args .image)) (c .before .before .before .before .before .before .before .shared-slice-known .given)) (c .before .before .before .before .before .before .before .before .pre .0) (good-canonical (now (c .before .before .before .before .before .before .before .before .args .image)) (c .before .before .before .before .before .before .before .before .pre .1)) (c .before .before .before .before .before .before .before .before .args .count) (c .before .before .before .before .before .before .before .before .pre .2) (decode-point form-1 (now (c .before .before .before .before .before .before .before .before .args .b)) .key) (c .before .before .before .before .find-point .result) (subst (λ (x : Key). Point-in (upto (c .before .before .before .before .before .before .before .before .args .count) (point-at (now (c .before .before .before .before .before .before .before .before .args .image)))) x (c .before .before .before .before .find-point .result)) (c .before .before .before .before .before .key-of .ensures) (c .before .before .before .before .find-point .ensures)) (At (c .before .before .i .given .0 .0)) (c .before .before .i .given .1)) .0), home-ascends (now (c .before .before .before .before .before .before .before .before .args .image)) (bytes-of (now (c .before .before .before .before .before .before .before .before .args .image)) (c .before .before .before .before .before .before .before .shared-slice-known .given)) (c .before .before .before .before .before .before .before .before .pre .0) (c .before .before .before .before .before .before .before .before .pre .1) (decode-point form-1 (now (c .before .before .before .before .before .before .before .before .args .b)) .key) (c .before .before .i .given .0 .0) (found-is (now (c .before .before .before .before .before .before .before .before .args .image)) (bytes-of (now (c .before .before .before .before .before .before .before .before .args .image)) (c .before .before .before .before .before .before .before .shared-slice-known .given)) (c .before .before .before .before .before .before .before .before .pre .0) (good-canonical (now (c .before .before .before .before .before .before .before .before .args .image)) (c .before .before .before .before .before .before .before .before .pre .1)) (c .before .before .before .before .before .before .before .before .args .count) (c .before .before .before .before .before .before .before .before .pre .2) (decode-point form-1 (now (c .before .before .before .before .before .before .before .before .args .b)) .key) (c .before .before .before .before .find-point .result) (subst (λ (x : Key). Point-in (upto (c .before .before .before .before .before .before .before .before .args .count) (point-at (now (c .before .before .before .before .before .before .before .before .args .image)))) x (c .before .before .before .before .find-point .result)) (c .before .before .before .before .before .key-of .ensures) (c .before .before .before .before .find-point .ensures)) (At (c .before .before .i .given .0 .0)) (c .before .before .i .given .1)))
 
-returns : tie.Need-returns Inv-loop μ-loop
-returns c =
-    let a = c .before .before .before .before .before .before .before .args in
-    let l = c .before .before .before .before .loop in
-    let b = now (a .b) in
-    let image = now (a .image) in
-    found (λ (p : Stored). some? (record-clashes (decode-point form-1 b .key) p) (decode-point form-1 b .object .versions)) (decode image .points) (a .count) (point-at image) (records-read image (a .count) (c .before .before .before .before .before .before .before .pre .2)) (l .i) (l .inv) (omega arith) (record-lent image (l .i) (decode-point form-1 b .key) (decode-point form-1 b .object .versions) (c .before .record-clashes .result) _ (c .before .record-clashes .ensures) (c .if1 .taken))
+enum-told : tie.Need-enum-told
+enum-told c = search needs
 
-add-i : tie.Need-add-i Inv-loop μ-loop
-add-i c = search needs
+new-otherwise-requires : tie.Need-new-otherwise-requires
+new-otherwise-requires c κs = (c .before .before .before .before .before .before .pre .0, c .before .before .before .before .before .before .pre .1, c .before .before .before .before .before .before .pre .2, c .before .before .before .before .before .before .pre .3, few-slots (now (c .before .before .before .before .before .before .args .b)) (bytes-of (now (c .before .before .before .before .before .before .args .b)) (c .before .before .before .before .shared-slice-known2 .given)) (c .before .before .before .before .before .before .pre .3) (c .before .before .before .before .before .before .pre .4))
 
-loop-less : tie.Need-loop-less Inv-loop μ-loop
-loop-less c = search needs
+returns : tie.Need-returns
+returns c = known-clash (now (c .before .before .before .before .before .before .before .before .before .args .image)) (bytes-of (now (c .before .before .before .before .before .before .before .before .before .args .image)) (c .before .before .before .before .before .before .before .before .shared-slice-known .given)) (c .before .before .before .before .before .before .before .before .before .pre .0) (c .before .before .before .before .before .before .before .before .before .pre .1) (decode-point form-1 (now (c .before .before .before .before .before .before .before .before .before .args .b)) .key) (c .before .before .before .i .given .0 .0) (found-is (now (c .before .before .before .before .before .before .before .before .before .args .image)) (bytes-of (now (c .before .before .before .before .before .before .before .before .before .args .image)) (c .before .before .before .before .before .before .before .before .shared-slice-known .given)) (c .before .before .before .before .before .before .before .before .before .pre .0) (good-canonical (now (c .before .before .before .before .before .before .before .before .before .args .image)) (c .before .before .before .before .before .before .before .before .before .pre .1)) (c .before .before .before .before .before .before .before .before .before .args .count) (c .before .before .before .before .before .before .before .before .before .pre .2) (decode-point form-1 (now (c .before .before .before .before .before .before .before .before .before .args .b)) .key) (c .before .before .before .before .before .find-point .result) (subst (λ (x : Key). Point-in (upto (c .before .before .before .before .before .before .before .before .before .args .count) (point-at (now (c .before .before .before .before .before .before .before .before .before .args .image)))) x (c .before .before .before .before .before .find-point .result)) (c .before .before .before .before .before .before .key-of .ensures) (c .before .before .before .before .before .find-point .ensures)) (At (c .before .before .before .i .given .0 .0)) (c .before .before .before .i .given .1)) (decode-point form-1 (now (c .before .before .before .before .before .before .before .before .before .args .b)) .object .versions) (c .known-otherwise .result) (c .known-otherwise .ensures)
 
-loop-again : tie.Need-loop-again Inv-loop μ-loop
-loop-again c =
-    let a = c .before .before .before .before .before .before .before .args in
-    let l = c .before .before .before .before .loop in
-    let b = now (a .b) in
-    let image = now (a .image) in
-    not-yet (λ (p : Stored). some? (record-clashes (decode-point form-1 b .key) p) (decode-point form-1 b .object .versions)) (decode image .points) (a .count) (point-at image) (records-read image (a .count) (c .before .before .before .before .before .before .before .pre .2)) (l .i) (l .inv) (omega arith) (record-lent image (l .i) (decode-point form-1 b .key) (decode-point form-1 b .object .versions) (c .before .record-clashes .result) _ (c .before .record-clashes .ensures) (c .if1 .left))
-
-returns-2 : tie.Need-returns-2 Inv-loop μ-loop
-returns-2 c =
-    let a = c .before .before .before .before .args in
-    let l = c .before .loop in
-    let b = now (a .b) in
-    let image = now (a .image) in
-    nowhere (λ (p : Stored). some? (record-clashes (decode-point form-1 b .key) p) (decode-point form-1 b .object .versions)) (decode image .points) (a .count) (point-at image) (records-read image (a .count) (c .before .before .before .before .pre .2)) (l .i) (l .inv) (omega arith)
+returns-2 : tie.Need-returns-2
+returns-2 c = new-clash (now (c .before .before .before .before .before .before .before .args .image)) (bytes-of (now (c .before .before .before .before .before .before .before .args .image)) (c .before .before .before .before .before .before .shared-slice-known .given)) (c .before .before .before .before .before .before .before .pre .0) (c .before .before .before .before .before .before .before .pre .1) (decode-point form-1 (now (c .before .before .before .before .before .before .before .args .b)) .key) (c .before .enum-told .given .0 .0) (found-is (now (c .before .before .before .before .before .before .before .args .image)) (bytes-of (now (c .before .before .before .before .before .before .before .args .image)) (c .before .before .before .before .before .before .shared-slice-known .given)) (c .before .before .before .before .before .before .before .pre .0) (good-canonical (now (c .before .before .before .before .before .before .before .args .image)) (c .before .before .before .before .before .before .before .pre .1)) (c .before .before .before .before .before .before .before .args .count) (c .before .before .before .before .before .before .before .pre .2) (decode-point form-1 (now (c .before .before .before .before .before .before .before .args .b)) .key) (c .before .before .before .find-point .result) (subst (λ (x : Key). Point-in (upto (c .before .before .before .before .before .before .before .args .count) (point-at (now (c .before .before .before .before .before .before .before .args .image)))) x (c .before .before .before .find-point .result)) (c .before .before .before .before .key-of .ensures) (c .before .before .before .find-point .ensures)) (Before (c .before .enum-told .given .0 .0)) (c .before .enum-told .given .1)) (decode-point form-1 (now (c .before .before .before .before .before .before .before .args .b)) .object .versions) (c .new-otherwise .result) (c .new-otherwise .ensures)
 
 pub stored-otherwise-spec : {M : Type 1} → statement M
 stored-otherwise-spec =
     tie.close
     (tie.spec
-    Inv-loop
-    μ-loop
-    loop-holds
+    key-of-requires
+    find-point-requires
+    enum-known-i
     add-at
     mul-at
-    add-record-clashes
-    sub-record-clashes
-    part-record-clashes-start
-    part-record-clashes-end
-    record-clashes-requires
+    add-known-otherwise
+    sub-known-otherwise
+    part-known-otherwise-start
+    part-known-otherwise-end
+    known-otherwise-requires
+    enum-told
+    new-otherwise-requires
     returns
-    add-i
-    loop-less
-    loop-again
     returns-2)
