@@ -34,7 +34,8 @@ record-clashes k p v = some? (versions-clash (same-key k (p .key)) v) (p .object
 abbrev pub stored-somewhere : List Stored → Dot → Bool
 stored-somewhere ps d = some? (λ p. has-dot (p .object .versions) d) ps
 
--- the same of a version and all the records ps, where ws is what is stored for its point and, as "no dot stands in two records", has its dots alone
+-- 10, of all records ps at once, where ws are the versions stored for the message's point: "no dot stands in two records", so where ws has the dot no
+-- other record has it
 unfoldable pub clashes-beside : List Stored → List Version → Version → Bool
 clashes-beside ps ws v = if has-dot ws (v .dot) then some? (versions-clash true v) ws else stored-somewhere ps (v .dot)
 
