@@ -24,7 +24,8 @@ use Rattle.laws.proofs.MergeLaws.{has-dot-of, of-has-dot}
 use Rattle.record.proofs.Reading.{version-at}
 use Rattle.apart.specs.Apart.{point-of, apart, apart-from-earlier}
 use Rattle.apart.specs.Marks.{mark-of, marked, with-mark, Noted}
-use Rattle.apart.proofs.Lent.{lent, block-part}
+use Rattle.apart.proofs.Lent.{lent}
+use Rattle.block.proofs.Runs.{block-part}
 use Rattle.apart.proofs.Versions.{versions-are}
 use Rattle.apart.proofs.Marking.{marks-length, mark-bound, new-stands, old-stand, unmarked-none, noted-still}
 

@@ -6,16 +6,12 @@ use native.Mathlib.Omega.{arith}
 use lib.ListN.{length, take, drop}
 use Rattle.block.specs.Fields.{field}
 use Rattle.block.specs.Block.{block-at}
-use Rattle.block.proofs.Parts.{part-is}
 use Rattle.block.proofs.Content.{block-length}
+use Rattle.block.proofs.Runs.{block-part}
 use Rattle.apart.specs.Apart.{Few}
 
 abbrev pub lent : List ℕ → ℕ → List ℕ
 lent run k = take (512 * k + 512 - 512 * k) (drop (512 * k) run)
-
-pub block-part : (run : List ℕ) (k : ℕ) → lent run k ≡ block-at run k
-unfolding block-at
-block-part run k = part-is run (512 * k) 512
 
 module _ (run : List ℕ) (n k : ℕ) (l : k < n) where
   pub lent-size : 512 * n ≤ length run → length (lent run k) ≡ 512

@@ -29,7 +29,7 @@ pub fn has_version(b: &[u8], d: Dot) -> bool
 }
 
 // One of the first n points has a version of this dot.
-fn among(points: &[u8], n: usize, d: Dot) -> bool
+pub fn among(points: &[u8], n: usize, d: Dot) -> bool
     requires { ⌜ (512 * n ≤ length (now points)) × Few (now points) n ⌝ }
     ensures { λ r. ⌜ r ≡ some? (λ p. has-dot (p .object .versions) d) (upto n (point-of (now (points .entry)))) ⌝ }
 {

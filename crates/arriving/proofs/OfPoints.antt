@@ -17,8 +17,9 @@ use Rattle.numbers.proofs.Tests.{and-right, _∈_}
 use Rattle.numbers.proofs.Lists.{in-keep, in-map, in-concat-map}
 use Rattle.block.specs.Fields.{field}
 use Rattle.block.specs.Block.{block-at}
+use Rattle.block.proofs.Runs.{block-bytes, block-part}
 use Rattle.block.proofs.Arrays.{in-upto}
-use Rattle.block.proofs.Numbers.{Bytes, bytes-cut, field-bound}
+use Rattle.block.proofs.Numbers.{Bytes, field-bound}
 use Rattle.block.proofs.Content.{block-length}
 use Rattle.block.proofs.Parts.{part-is}
 use Rattle.row.specs.Row.{sound}
@@ -53,30 +54,22 @@ arriving-countable b small size few n here c m =
 -- ---- the blocks of a run
 
 module _ (run : List ℕ) (small : Bytes run) where
-  pub block-small : (j : ℕ) → Bytes (block-at run j)
-  unfolding block-at
-  block-small j = bytes-cut run (512 * j) 512 small
-
   pub block-size : (j : ℕ) → j < length run / 512 → length (block-at run j) ≡ 512
   block-size j l = block-length run j (omega arith)
 
-  pub lent-block : (j : ℕ) → take (512 * j + 512 - 512 * j) (drop (512 * j) run) ≡ block-at run j
-  unfolding block-at
-  lent-block j = part-is run (512 * j) 512
-
   pub lent-size : (j : ℕ) → j < length run / 512 → length (take (512 * j + 512 - 512 * j) (drop (512 * j) run)) ≡ 512
-  lent-size j l = ap length (lent-block j) ∙ block-size j l
+  lent-size j l = ap length (block-part run j) ∙ block-size j l
 
   module _ (few : Few run) where
     pub lent-few : (j : ℕ) → j < length run / 512 → field (take (512 * j + 512 - 512 * j) (drop (512 * j) run)) 5 1 ≤ 8
-    lent-few j l = subst (λ (b : List ℕ). field b 5 1 ≤ 8) (sym (lent-block j)) (few j l)
+    lent-few j l = subst (λ (b : List ℕ). field b 5 1 ≤ 8) (sym (block-part run j)) (few j l)
 
     pub run-countable : (s : State) (n : Controller) → Countable (arriving-with s n (points-in run))
     unfolding arriving-with decode-stored
     run-countable s n c m =
         let q = in-concat-map (λ (p : Stored). arriving n (entry (local s (p .key) .context) n) (p .object .versions)) (points-in run) m in
         let u = in-upto (length run / 512) (λ i. decode-stored form-1 (block-at run i)) (q .1) in
-        arriving-countable (block-at run (u .0)) (block-small (u .0)) (block-size (u .0) (u .1)) (few (u .0) (u .1)) n (entry (local s (q .0 .key) .context) n) c
+        arriving-countable (block-at run (u .0)) (block-bytes run small (u .0)) (block-size (u .0) (u .1)) (few (u .0) (u .1)) n (entry (local s (q .0 .key) .context) n) c
         (subst (λ (p : Stored). c ∈ arriving n (entry (local s (q .0 .key) .context) n) (p .object .versions)) (u .2) (q .2))
 
     -- one point more was looked at
@@ -88,9 +81,9 @@ module _ (run : List ℕ) (small : Bytes run) where
     point-tried s n t₀ j t F sd l k here u ke he ue =
         let b = block-at run j in
         let is : u ≡ try-point s n t (decode-stored form-1 (block-at run j)) =
-        ue ∙ ap (λ (x : List ℕ). fold tried t (arriving n here (decode-point form-1 x .object .versions))) (lent-block j)
+        ue ∙ ap (λ (x : List ℕ). fold tried t (arriving n here (decode-point form-1 x .object .versions))) (block-part run j)
         ∙ ap (λ (e : Counter). fold tried t (arriving n e (decode-point form-1 (block-at run j) .object .versions)))
-        (he ∙ ap (λ (x : Key). entry (local s x .context) n) (ke ∙ ap (λ (x : List ℕ). decode-point form-1 x .key) (lent-block j))) in (
+        (he ∙ ap (λ (x : Key). entry (local s x .context) n) (ke ∙ ap (λ (x : List ℕ). decode-point form-1 x .key) (block-part run j))) in (
           folded-more F l u is,
-          subst (λ (x : Tried). sound (x .row) ≡ true) (sym is) (all-sound t _ sd (arriving-countable (block-at run j) (block-small j) (block-size j l) (few j l) n _)),
+          subst (λ (x : Tried). sound (x .row) ≡ true) (sym is) (all-sound t _ sd (arriving-countable (block-at run j) (block-bytes run small j) (block-size j l) (few j l) n _)),
         )

@@ -16,3 +16,4 @@ pub mod Passing
 pub mod ByIndex
 pub mod Search
 pub mod Placed
+pub mod Runs

@@ -18,7 +18,7 @@ use Rattle.layout.specs.PointBlock.{form-1, decode-point, decode-stored}
 use Rattle.layout.specs.Image.{image-length, decode, goodImage}
 use Rattle.image.specs.Apart.{point-at}
 use Rattle.image.specs.Places.{no-point, Point-in}
-use Rattle.apart.proofs.Lent.{block-part}
+use Rattle.block.proofs.Runs.{block-part}
 use Rattle.dots.specs.declared.Found.{Found}
 use Rattle.dots.specs.declared.Found.the-variants.{At, Before}
 use Rattle.object.specs.Versions.{no-version, Version-in}

@@ -83,15 +83,7 @@ fn stored_somewhere(image: &[u8], count: usize, d: Dot) -> bool
     requires { ⌜ (length (now image) ≡ image-length) × (goodImage (now image) ≡ true) × (count ≡ length (decode (now image) .points)) ⌝ }
     ensures { λ r. ⌜ r ≡ stored-somewhere (decode (now (image .entry)) .points) d ⌝ }
 {
-    let mut i: usize = 0;
-    while i < count {
-        let at = 512 * (3 + i);
-        if image::has_version(&image[at..at + 512], d) {
-            return true;
-        }
-        i += 1;
-    }
-    false
+    apart::among(&image[1536..], count, d)
 }
 
 // Version j of the message's block b, whose point's record is p: no other record has a dot that p has.

@@ -23,7 +23,7 @@ use Rattle.layout.specs.Image.{image-length, decode-head, decode}
 use Rattle.layout.specs.Messages.{decode-ask, decode-reply}
 use Rattle.record_edits.specs.Written.{lay-point, point-block}
 use Rattle.store.proofs.Lent.{table-part, clock-part}
-use Rattle.arriving.proofs.OfPoints.{lent-block}
+use Rattle.block.proofs.Runs.{block-part}
 use Rattle.checking.specs.Points.{above}
 use Rattle.checking.proofs.Ahead.{above-is}
 use Rattle.replying.proofs.Judging.{own-lent}
@@ -37,10 +37,10 @@ module _ (run : List ℕ) (small : Bytes run) (j : ℕ) where
       → r ≡ f (decode-point form-1 (take (512 * j + 512 - 512 * j) (drop (512 * j) run)) .key) (decode-point form-1 (take (512 * j + 512 - 512 * j) (drop (512 * j) run)) .object) → r ≡ t
       → f (point-of run j .key) (point-of run j .object) ≡ t
   unfolding decode-stored
-  point-tested f r t e q = sym (ap (λ (b : List ℕ). f (decode-point form-1 b .key) (decode-point form-1 b .object)) (lent-block run small j)) ∙ sym e ∙ q
+  point-tested f r t e q = sym (ap (λ (b : List ℕ). f (decode-point form-1 b .key) (decode-point form-1 b .object)) (block-part run j)) ∙ sym e ∙ q
 
   pub lent-laid : AllLaid run → j < length run / 512 → Laid lay-point point-block (take (512 * j + 512 - 512 * j) (drop (512 * j) run))
-  lent-laid laid l = subst (Laid lay-point point-block) (sym (lent-block run small j)) (laid j l)
+  lent-laid laid l = subst (Laid lay-point point-block) (sym (block-part run j)) (laid j l)
 
 -- ---- a reply as it is lent: its head, and the rest
 

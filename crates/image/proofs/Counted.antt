@@ -1,5 +1,5 @@
 -- The stored blocks of an image: how many there are, and what they say. Assumes nothing.
-use Prim.Native.Nat.{ℕ, zero, suc, _+_, _*_, _-_, _≤_, _<_}
+use Prim.Native.Nat.{ℕ, zero, suc, _+_, _*_, _≤_, _<_}
 use mathlib.Core.Path.{_≡_, refl, ap, sym, _∙_, subst}
 use mathlib.Core.Logic.{_⊎_, inl, inr, ⊎-elim}
 use mathlib.Core.Bool.{Bool, true, false, _&&_}
@@ -14,9 +14,10 @@ use Rattle.numbers.proofs.Tests.{by-test, and-both}
 use Rattle.numbers.proofs.Lists.{in-all}
 use Rattle.block.specs.Fields.{field, upto}
 use Rattle.block.specs.Block.{block-at}
-use Rattle.block.proofs.Numbers.{Bytes, bytes-cut}
+use Rattle.block.proofs.Numbers.{Bytes}
 use Rattle.block.proofs.Arrays.{upto-length}
 use Rattle.block.proofs.Content.{block-length}
+use Rattle.block.proofs.Runs.{block-bytes}
 use Rattle.parts.proofs.Lookup.{field-of-cut}
 use Rattle.meaning.specs.CrewTable.{is-table}
 use Rattle.meaning.specs.State.{Stored}
@@ -109,17 +110,13 @@ points-few img =
 -- ---- what every image of bytes has
 
 module _ (img : List ℕ) (h : Bytes img) (e : length img ≡ image-length) where
-  block-bytes : (k : ℕ) → Bytes (block-at img k)
-  unfolding block-at
-  block-bytes k = bytes-cut img (512 * k) 512 h
-
   block-ok : (k : ℕ) → k < 67 → length (block-at img k) ≡ 512
   block-ok k l = block-length img k (omega arith)
 
   shape : Shape (decode img)
   unfolding decode
   shape =
-      let H = head-decoded (block-at img 0) (block-bytes 0) (block-ok 0 (omega arith)) in
+      let H = head-decoded (block-at img 0) (block-bytes img h 0) (block-ok 0 (omega arith)) in
       record {
         table-good = unfold is-table in
             (and-both (eqb (length (decode-head (block-at img 0) .table)) 8) (all? (λ b. ltb b 256) (decode-head (block-at img 0) .table))
@@ -128,8 +125,8 @@ module _ (img : List ℕ) (h : Bytes img) (e : length img ≡ image-length) wher
         clock-eight = H .clock .eight;
         marks-eight = H .marks .eight;
         marks-rows = in-all (λ r. eqb (length r) 8) (decode-head (block-at img 0) .watermark) (λ r m. eq-eqb (length r) 8 (H .marks .rows r m));
-        own-few = dots-decoded (block-at img 1) (block-bytes 1) (block-ok 1 (omega arith)) .few;
-        foreign-few = dots-decoded (block-at img 2) (block-bytes 2) (block-ok 2 (omega arith)) .few;
+        own-few = dots-decoded (block-at img 1) (block-bytes img h 1) (block-ok 1 (omega arith)) .few;
+        foreign-few = dots-decoded (block-at img 2) (block-bytes img h 2) (block-ok 2 (omega arith)) .few;
         points-few = points-few img;
       }
 

@@ -16,7 +16,7 @@ use Rattle.layout.specs.PointBlock.{form-1, decode-point, decode-stored}
 use Rattle.dots.specs.declared.Found.the-variants.{At, Before}
 use Rattle.image.specs.Apart.{point-at}
 use Rattle.image.specs.Places.{no-point, Point-in}
-use Rattle.apart.proofs.Lent.{block-part}
+use Rattle.block.proofs.Runs.{block-part}
 
 -- the key that was read of a block, as it is lent
 pub key-there : (img : List ℕ) (i : ℕ) {x : Key} → x ≡ decode-point form-1 (take (512 * (3 + i) + 512 - 512 * (3 + i)) (drop (512 * (3 + i)) img)) .key → x ≡ point-at img i .key

@@ -1,52 +1,30 @@
 -- An image is laid out as it should be just where its blocks are. Assumes nothing.
 use Prim.Native.Nat.{ℕ, zero, suc, _+_, _*_, _-_, _≤_, _<_}
-use mathlib.Core.Path.{_≡_, refl, ap, ap₂, sym, _∙_, subst}
+use mathlib.Core.Path.{_≡_, ap, ap₂, sym, _∙_, subst}
 use mathlib.Core.Bool.{Bool, true, false, _&&_}
 use mathlib.Core.Logic.{⊎-elim}
 use mathlib.Core.List.{List, [], _∷_, _++_, append-assoc, List·Memᴰ·not-nil, List·Memᴰ·cases-cons}
 use native.Mathlib.Omega.{arith}
-use lib.ListN.{length, take, drop, length-append, length-drop, length-replicate}
+use lib.ListN.{length, drop, length-append, length-drop, length-replicate}
 use lib.Seq.{drop-drop}
 use lib.Dec.{eqb}
-use Rattle.numbers.specs.Words.{if_then_else_, every, all?, map, same-list}
+use Rattle.numbers.specs.Words.{every, all?, map, same-list}
 use Rattle.numbers.proofs.Tests.{by-test, and-group, and-one, _∈_, here, there}
 use Rattle.numbers.proofs.Lists.{in-map, map-length}
-use Rattle.block.specs.Fields.{cut, field, zeros, upto}
+use Rattle.block.specs.Fields.{field, zeros, upto}
 use Rattle.block.specs.Block.{block-at}
-use Rattle.block.proofs.Numbers.{Bytes, bytes-drop, bytes-cut}
+use Rattle.block.proofs.Numbers.{Bytes, bytes-drop}
 use Rattle.block.proofs.Arrays.{upto-same, upto-length, in-upto}
 use Rattle.block.proofs.Content.{block-length}
+use Rattle.block.proofs.Runs.{block-bytes, block-zero, block-of-drop, block-later}
 use Rattle.block.proofs.Same.{same-parts, same-zeros}
-use Rattle.meaning.specs.State.{Stored, State}
+use Rattle.meaning.specs.State.{Stored}
 use Rattle.meaning.specs.Settle.{most-points}
 use Rattle.layout.specs.PointBlock.{form-1, encode-stored, decode-stored}
-use Rattle.layout.specs.Image.{image-length, head-of, encode-head, decode-head, encode-dots, decode-dots, encode-points, encode, until-zero, decode}
+use Rattle.layout.specs.Image.{image-length, encode-head, decode-head, encode-dots, decode-dots, encode-points, encode, until-zero, decode}
 use Rattle.layout.proofs.ImageBack.{head-length, dots-length, stored-length, points-length, StoredSized, AllSized}
 use Rattle.layout.proofs.Decoded.{stored-decoded, dots-decoded, head-decoded}
 use Rattle.image.specs.Parts.{stored-count, stored-laid-out, parts-laid-out}
-
--- ---- blocks of the rest of a run
-
-block-of-drop : (r : List ℕ) (j k : ℕ) → block-at (drop (512 * j) r) k ≡ block-at r (j + k)
-unfolding block-at
-block-of-drop r j k = ap (take 512) (drop-drop (512 * k) (512 * j) r ∙ ap (λ (o : ℕ). drop o r) there)
-  where
-    there : 512 * j + 512 * k ≡ 512 * (j + k)
-    there = omega arith
-
-block-zero : (r : List ℕ) → cut r 0 512 ≡ block-at r 0
-unfolding block-at
-block-zero r = refl
-
-block-later : (r : List ℕ) (k : ℕ) → block-at r (suc k) ≡ block-at (drop 512 r) k
-block-later r k = sym (block-of-drop r 1 k ∙ ap (block-at r) there)
-  where
-    there : 1 + k ≡ suc k
-    there = omega arith
-
-bytes-block : (r : List ℕ) (k : ℕ) → Bytes r → Bytes (block-at r k)
-unfolding block-at
-bytes-block r k h = bytes-cut r (512 * k) 512 h
 
 -- ---- the points
 
@@ -68,7 +46,7 @@ used-sized m r h e p k =
     let q = in-map (decode-stored form-1) (used m r) k in
     let b = in-upto m (block-at r) (until-in (upto m (block-at r)) (q .1)) in
     subst (λ (x : Stored). StoredSized x) (sym (q .2))
-    (stored-decoded (q .0) (subst (λ (x : List ℕ). Bytes x) (sym (b .2)) (bytes-block r (b .0) h)) (subst (λ (x : List ℕ). length x ≡ 512) (sym (b .2)) (block-length r (b .0) (omega (arith, b .1)))))
+    (stored-decoded (q .0) (subst (λ (x : List ℕ). Bytes x) (sym (b .2)) (block-bytes r h (b .0))) (subst (λ (x : List ℕ). length x ≡ 512) (sym (b .2)) (block-length r (b .0) (omega (arith, b .1)))))
 
 until-few : (bs : List (List ℕ)) → length (until-zero bs) ≤ length bs
 until-few [] = omega arith
@@ -85,7 +63,7 @@ points-same zero position r h e = same-zeros 0 r (omega arith)
 points-same (suc m) position r h e = by-test (eqb (field (block-at r 0) 0 1) 0) none (λ t. some t (points-same m (position + 1) (drop 512 r) (bytes-drop 512 r h) (length-drop 512 r ∙ omega arith)))
   where
     later : upto m (λ i. block-at r (suc i)) ≡ upto m (block-at (drop 512 r))
-    later = upto-same m (λ i. block-at r (suc i)) (block-at (drop 512 r)) (λ i l. block-later r i)
+    later = upto-same m (λ i. block-at r (suc i)) (block-at (drop 512 r)) (λ i l. sym (block-later r i))
 
     none-used : eqb (field (block-at r 0) 0 1) 0 ≡ true → used (suc m) r ≡ []
     none-used t = rw t
@@ -111,7 +89,7 @@ points-same (suc m) position r h e = by-test (eqb (field (block-at r 0) 0 1) 0) 
         d-length = length-drop 512 r ∙ omega arith
 
         e0-length : length (encode-stored form-1 position (decode-stored form-1 (block-at r 0))) ≡ 512
-        e0-length = stored-length position (decode-stored form-1 (block-at r 0)) (stored-decoded (block-at r 0) (bytes-block r 0 h) (block-length r 0 (omega arith)))
+        e0-length = stored-length position (decode-stored form-1 (block-at r 0)) (stored-decoded (block-at r 0) (block-bytes r h 0) (block-length r 0 (omega arith)))
 
         more-length : length (encode-points (position + 1) (map (decode-stored form-1) (used m (drop 512 r)))) ≡ 512 * length (used m (drop 512 r))
         more-length =
@@ -137,7 +115,7 @@ points-same (suc m) position r h e = by-test (eqb (field (block-at r 0) 0 1) 0) 
         tests-on =
             ap every
             (upto-same (length (used m (drop 512 r))) (λ i. test (block-at (drop 512 r) i) (position + 1 + i)) (λ i. test (block-at r (suc i)) (position + suc i))
-            (λ i l. ap₂ test (sym (block-later r i)) (next i)))
+            (λ i l. ap₂ test (block-later r i) (next i)))
 
         first-and : (same-list (encode-points (position + 1) (map (decode-stored form-1) (used m (drop 512 r))) ++ zeros (512 * (m - length (used m (drop 512 r))))) (drop 512 r)
             ≡ (every (upto (length (used m (drop 512 r))) (λ i. test (block-at (drop 512 r) i) (position + 1 + i))) && all? (λ x. eqb x 0) (drop (512 * length (used m (drop 512 r))) (drop 512 r))))
@@ -177,13 +155,13 @@ module _ (img : List ℕ) (h : Bytes img) (e : length img ≡ image-length) wher
   points-part = encode-points 3 (map (decode-stored form-1) (used most-points (drop 1536 img))) ++ zeros (512 * (most-points - length (used most-points (drop 1536 img))))
 
   head-size : length head-part ≡ 512
-  head-size = head-length (decode-head (block-at img 0)) (head-decoded (block-at img 0) (bytes-block img 0 h) (block-ok 0 (omega arith)))
+  head-size = head-length (decode-head (block-at img 0)) (head-decoded (block-at img 0) (block-bytes img h 0) (block-ok 0 (omega arith)))
 
   own-size : length own-part ≡ 512
-  own-size = dots-length 1 (decode-dots (block-at img 1)) (dots-decoded (block-at img 1) (bytes-block img 1 h) (block-ok 1 (omega arith)))
+  own-size = dots-length 1 (decode-dots (block-at img 1)) (dots-decoded (block-at img 1) (block-bytes img h 1) (block-ok 1 (omega arith)))
 
   foreign-size : length foreign-part ≡ 512
-  foreign-size = dots-length 2 (decode-dots (block-at img 2)) (dots-decoded (block-at img 2) (bytes-block img 2 h) (block-ok 2 (omega arith)))
+  foreign-size = dots-length 2 (decode-dots (block-at img 2)) (dots-decoded (block-at img 2) (block-bytes img h 2) (block-ok 2 (omega arith)))
 
   rest-size : length (drop 1536 img) ≡ 512 * most-points
   rest-size = length-drop 1536 img ∙ omega arith

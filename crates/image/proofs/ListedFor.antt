@@ -29,7 +29,7 @@ use Rattle.dots.specs.Entries.{entry, no-entry, Found-in}
 use Rattle.dots.proofs.Laid.{entries-are, entries-length}
 use Rattle.dots.proofs.Search.{all-pairs}
 use Rattle.record.proofs.Reading.{version-at}
-use Rattle.apart.proofs.Lent.{block-part}
+use Rattle.block.proofs.Runs.{block-part}
 use Rattle.apart.proofs.Versions.{versions-are}
 use Rattle.image.specs.Apart.{dot-listed-for, listed-for, point-at}
 

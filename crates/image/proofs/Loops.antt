@@ -4,8 +4,7 @@ use mathlib.Core.Path.{_≡_, ap, ap₂, sym, _∙_, subst}
 use mathlib.Core.Bool.{Bool, true, false}
 use mathlib.Core.List.{List}
 use native.Mathlib.Omega.{arith}
-use lib.ListN.{length, take, drop, length-drop}
-use lib.Seq.{take-all, drop-drop}
+use lib.ListN.{length, take, drop}
 use Rattle.numbers.specs.declared.Controller.{Controller}
 use Rattle.numbers.specs.declared.Key.{Key}
 use Rattle.numbers.specs.Words.{every, ascends?, same-list}
@@ -13,6 +12,7 @@ use Rattle.numbers.specs.Key.{key-before}
 use Rattle.block.specs.Fields.{field, upto}
 use Rattle.block.specs.Block.{block-at}
 use Rattle.block.proofs.Arrays.{upto-same}
+use Rattle.block.proofs.Runs.{block-of-drop, lent-rest}
 use Rattle.block.proofs.ByIndex.{Pairs, ascends-upto, pairs-more, pairs-fail}
 use Rattle.meaning.specs.State.{stored-before}
 use Rattle.laws.proofs.Putting.{stored-order}
@@ -21,7 +21,7 @@ use Rattle.layout.specs.PointBlock.{form-1, decode-point, encode-stored, decode
 use Rattle.record.specs.RecordGood.{record-good}
 use Rattle.apart.specs.Apart as run
 use Rattle.apart.specs.Apart.{point-of, apart}
-use Rattle.apart.proofs.Lent.{block-part}
+use Rattle.block.proofs.Runs.{block-part}
 use Rattle.image.specs.Parts.{stored-laid-out, Few}
 use Rattle.image.specs.Apart.{point-at, apart-from-earlier}
 
@@ -86,26 +86,21 @@ all-up img count i l h = sym (ascends-upto stored-before count (point-at img) (�
 -- ---- each record with those before it
 
 -- what stands behind the head and the lists, as it is lent
-pub behind-lent : (img : List ℕ) → take (length img - 1536) (drop 1536 img) ≡ drop 1536 img
-behind-lent img = take-all (length img - 1536) (drop 1536 img) (omega (arith, length-drop 1536 img))
-
-block-behind : (img : List ℕ) (i : ℕ) → block-at (drop 1536 img) i ≡ block-at img (3 + i)
-unfolding block-at
-block-behind img i = ap (take 512) (drop-drop (512 * i) 1536 img ∙ ap (λ (o : ℕ). drop o img) there)
-  where
-    there : 1536 + 512 * i ≡ 512 * (3 + i)
-    there = omega arith
-
 pub few-behind : (img : List ℕ) (n : ℕ) → Few img n → run.Few (take (length img - 1536) (drop 1536 img)) n
-few-behind img n few i l = subst (λ (b : List ℕ). field b 5 1 ≤ 8) (sym (ap (λ (r : List ℕ). block-at r i) (behind-lent img) ∙ block-behind img i)) (few i l)
+few-behind img n few i l = subst (λ (b : List ℕ). field b 5 1 ≤ 8) (sym (ap (λ (r : List ℕ). block-at r i) (lent-rest img 1536) ∙ block-of-drop img 3 i)) (few i l)
 
 apart-behind : (img : List ℕ) (j : ℕ) → run.apart-from-earlier (drop 1536 img) j ≡ apart-from-earlier img j
 unfolding run.apart-from-earlier apart-from-earlier
 apart-behind img j =
     ap every (upto-same j (λ i. apart (point-of (drop 1536 img) i) (point-of (drop 1536 img) j)) (λ i. apart (point-at img i) (point-at img j))
-    (λ i l. ap₂ (λ (a b : List ℕ). apart (decode-stored form-1 a) (decode-stored form-1 b)) (block-behind img i) (block-behind img j)))
+    (λ i l. ap₂ (λ (a b : List ℕ). apart (decode-stored form-1 a) (decode-stored form-1 b)) (block-of-drop img 3 i) (block-of-drop img 3 j)))
 
 pub all-behind : (img : List ℕ) (n : ℕ) → every (upto n (run.apart-from-earlier (take (length img - 1536) (drop 1536 img)))) ≡ every (upto n (apart-from-earlier img))
 all-behind img n =
-    ap (λ (r : List ℕ). every (upto n (run.apart-from-earlier r))) (behind-lent img)
+    ap (λ (r : List ℕ). every (upto n (run.apart-from-earlier r))) (lent-rest img 1536)
     ∙ ap every (upto-same n (run.apart-from-earlier (drop 1536 img)) (apart-from-earlier img) (λ j l. apart-behind img j))
+
+pub points-behind : (img : List ℕ) (n : ℕ) → upto n (point-of (take (length img - 1536) (drop 1536 img))) ≡ upto n (point-at img)
+points-behind img n =
+    ap (λ (r : List ℕ). upto n (point-of r)) (lent-rest img 1536)
+    ∙ upto-same n (point-of (drop 1536 img)) (point-at img) (λ i l. ap (decode-stored form-1) (block-of-drop img 3 i))

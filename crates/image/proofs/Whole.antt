@@ -18,9 +18,10 @@ use Rattle.numbers.proofs.Tests.{by-test, never}
 use Rattle.numbers.proofs.Controllers.{crew-is}
 use Rattle.block.specs.Fields.{cut, field, upto}
 use Rattle.block.specs.Block.{block-at}
-use Rattle.block.proofs.Numbers.{Bytes, bytes-cut}
+use Rattle.block.proofs.Numbers.{Bytes}
 use Rattle.block.proofs.Parts.{cut-cut}
 use Rattle.block.proofs.Content.{block-length}
+use Rattle.block.proofs.Runs.{block-bytes}
 use Rattle.block.proofs.Passing.{all-upto, every-at}
 use Rattle.meaning.specs.State.{State, Stored, Listed, stored-before, listed-before, dots-of}
 use Rattle.meaning.specs.Message.{dots-agree}
@@ -94,14 +95,10 @@ module _ (img : List ℕ) (h : Bytes img) (e : length img ≡ image-length) (t :
   unfolding parts-laid-out
   passes = clause (layout-tests img) t
 
-  block-bytes : (k : ℕ) → Bytes (block-at img k)
-  unfolding block-at
-  block-bytes k = bytes-cut img (512 * k) 512 h
-
   list-few : (k : ℕ) → k < 3 → same-list (encode-dots k (decode-dots (block-at img k))) (block-at img k) ≡ true → field (block-at img k) 4 2 ≤ 60
   list-few k l u =
       by-test (leb (field (block-at img k) 4 2) 60) (λ v. leb-true (field (block-at img k) 4 2) 60 v)
-      (λ v. never u (sym (lists.not-laid-out (block-at img k) (block-bytes k) (block-length img k (omega arith)) k (omega arith) 3 v)))
+      (λ v. never u (sym (lists.not-laid-out (block-at img k) (block-bytes img h k) (block-length img k (omega arith)) k (omega arith) 3 v)))
 
   pub own-few : field (cut img 512 512) 4 2 ≤ 60
   unfolding block-at
@@ -117,8 +114,8 @@ module _ (img : List ℕ) (h : Bytes img) (e : length img ≡ image-length) (t :
       by-test (leb (field (block-at img k) 5 1) 8) (λ v. leb-true (field (block-at img k) 5 1) 8 v)
       (λ v. by-test (eqb (field (block-at img k) 296 1) 0)
       (λ w. never u (sym (stored-unsent (block-at img k) k (eqb-true (field (block-at img k) 296 1) 0 w))
-      ∙ point-many (block-at img k) (block-bytes k) (block-length img k (omega arith)) 3 k (omega arith) (omega arith) (leb-false (field (block-at img k) 5 1) 8 v)))
-      (λ w. never u (stored-sent (block-at img k) k (block-bytes k) (block-length img k (omega arith)) (omega arith) (eqb-false (field (block-at img k) 296 1) 0 w))))
+      ∙ point-many (block-at img k) (block-bytes img h k) (block-length img k (omega arith)) 3 k (omega arith) (omega arith) (leb-false (field (block-at img k) 5 1) 8 v)))
+      (λ w. never u (stored-sent (block-at img k) k (block-bytes img h k) (block-length img k (omega arith)) (omega arith) (eqb-false (field (block-at img k) 296 1) 0 w))))
 
   pub points-few : (n : ℕ) → n ≤ 64 → n ≡ stored-count img → Few img n
   points-few n m c i l = point-few (3 + i) (omega arith) (every-at n (λ j. stored-laid-out img (3 + j)) (ap (λ (x : ℕ). every (upto x (λ j. stored-laid-out img (3 + j)))) c ∙ passes 3) i l)

@@ -13,10 +13,11 @@ use Rattle.numbers.proofs.Tests.{by-test, _∈_, here, there}
 use Rattle.numbers.proofs.Lists.{all-in}
 use Rattle.block.specs.Fields.{cut, splice, zeros, upto}
 use Rattle.block.specs.Block.{block-at}
-use Rattle.block.proofs.Numbers.{Bytes, bytes-cut}
+use Rattle.block.proofs.Numbers.{Bytes}
 use Rattle.block.proofs.Arrays.{in-upto}
 use Rattle.block.proofs.Parts.{splice-same, splice-before, splice-after}
 use Rattle.block.proofs.Content.{block-first, block-next, block-length, same-blocks}
+use Rattle.block.proofs.Runs.{block-bytes}
 use Rattle.meaning.specs.Object.{no-object}
 use Rattle.meaning.specs.State.{Stored, State}
 use Rattle.meaning.specs.Settle.{most-points}
@@ -105,18 +106,14 @@ blocks-same s a b A B = same-blocks 67 a b (A .size) (B .size) each
 -- ---- an image of bytes
 
 module _ (img : List ℕ) (small : Bytes img) (size : length img ≡ image-length) where
-  block-bytes : (k : ℕ) → Bytes (block-at img k)
-  unfolding block-at
-  block-bytes k = bytes-cut img (512 * k) 512 small
-
   block-ok : (k : ℕ) → k < 67 → length (block-at img k) ≡ 512
   block-ok k l = block-length img k (omega arith)
 
   pub image-decoded : Sized (decode img)
   image-decoded = record {
-    head = unfold decode in head-decoded (block-at img 0) (block-bytes 0) (block-ok 0 (omega arith));
-    own = unfold decode in dots-decoded (block-at img 1) (block-bytes 1) (block-ok 1 (omega arith));
-    foreign = unfold decode in dots-decoded (block-at img 2) (block-bytes 2) (block-ok 2 (omega arith));
+    head = unfold decode in head-decoded (block-at img 0) (block-bytes img small 0) (block-ok 0 (omega arith));
+    own = unfold decode in dots-decoded (block-at img 1) (block-bytes img small 1) (block-ok 1 (omega arith));
+    foreign = unfold decode in dots-decoded (block-at img 2) (block-bytes img small 2) (block-ok 2 (omega arith));
     few = points-few img;
     points = subst AllSized (sym (points-are img)) each;
   }
@@ -124,7 +121,7 @@ module _ (img : List ℕ) (small : Bytes img) (size : length img ≡ image-lengt
       each : AllSized (upto (Rattle.image.specs.Parts.stored-count img) (λ i. decode-stored form-1 (block-at img (3 + i))))
       each p m =
           let q = in-upto (Rattle.image.specs.Parts.stored-count img) (λ i. decode-stored form-1 (block-at img (3 + i))) m in
-          subst StoredSized (sym (q .2)) (stored-decoded (block-at img (3 + q .0)) (block-bytes (3 + q .0)) (block-ok (3 + q .0) (omega (arith, q .1, stored-few img))))
+          subst StoredSized (sym (q .2)) (stored-decoded (block-at img (3 + q .0)) (block-bytes img small (3 + q .0)) (block-ok (3 + q .0) (omega (arith, q .1, stored-few img))))
 
   pub canonical-blocks : encode (decode img) ≡ img → Blocks (decode img) img
   canonical-blocks e = subst (Blocks (decode img)) e (blocks-of (decode img) image-decoded)

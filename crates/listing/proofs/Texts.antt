@@ -26,7 +26,7 @@ use Rattle.layout.specs.Listing.{space, newline, word-controller, word-records,
 use Rattle.image.specs.Parts.{stored-count}
 use Rattle.image.specs.Apart.{point-at}
 use Rattle.image.proofs.Counted.{points-are}
-use Rattle.apart.proofs.Lent.{block-part}
+use Rattle.block.proofs.Runs.{block-part}
 use Rattle.listing.specs.Put.{label, record-lines}
 
 -- ---- numbers

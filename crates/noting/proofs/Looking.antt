@@ -25,7 +25,7 @@ use Rattle.record.specs.Crewed.{crewed}
 use Rattle.record.proofs.Reading.{version-at, versions-are}
 use Rattle.store.proofs.Lent.{clock-part}
 use Rattle.arriving.proofs.Folding.{Folded, folded-more, fold-append}
-use Rattle.arriving.proofs.OfPoints.{lent-block}
+use Rattle.block.proofs.Runs.{block-part}
 use Rattle.noting.specs.declared.Next.{Next}
 use Rattle.noting.specs.Noted.{arrives-new, new-of, newly-arrived, Crewed}
 use Rattle.noting.specs.Nearest.{closer, with-new, nearest}
@@ -103,10 +103,10 @@ all-looked s last best ps = looked-into s last best ps
 module _ (run : List ℕ) (small : Bytes run) where
   pub lent-crewed : Crewed run → (j : ℕ) → j < length run / 512 → crewed (decode-point form-1 (take (512 * j + 512 - 512 * j) (drop (512 * j) run)) .object .versions) ≡ true
   unfolding decode-stored
-  lent-crewed ok j l = subst (λ (b : List ℕ). crewed (decode-point form-1 b .object .versions) ≡ true) (sym (lent-block run small j)) (ok j l)
+  lent-crewed ok j l = subst (λ (b : List ℕ). crewed (decode-point form-1 b .object .versions) ≡ true) (sym (block-part run j)) (ok j l)
 
   -- one point more was looked into
   pub one-looked : (s : State) (last : Dot) (b₀ : Next) (j : ℕ) (best : Next) → Folded (look-into s last) (length run / 512) (λ i. decode-stored form-1 (block-at run i)) b₀ j best
       → j < length run / 512 → (r : Next) → r ≡ nearest last best (new-of s (decode-stored form-1 (take (512 * j + 512 - 512 * j) (drop (512 * j) run))))
       → Folded (look-into s last) (length run / 512) (λ i. decode-stored form-1 (block-at run i)) b₀ (j + 1) r
-  one-looked s last b₀ j best F l r e = folded-more F l r (e ∙ ap (λ (b : List ℕ). look-into s last best (decode-stored form-1 b)) (lent-block run small j))
+  one-looked s last b₀ j best F l r e = folded-more F l r (e ∙ ap (λ (b : List ℕ). look-into s last best (decode-stored form-1 b)) (block-part run j))

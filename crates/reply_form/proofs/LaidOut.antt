@@ -12,6 +12,7 @@ use Rattle.block.specs.Block.{block-at, Laid}
 use Rattle.block.proofs.Numbers.{Bytes, bytes-drop, bytes-cut, field-bound}
 use Rattle.block.proofs.Arrays.{upto-same, upto-length, in-upto}
 use Rattle.block.proofs.Content.{block-length}
+use Rattle.block.proofs.Runs.{block-bytes, block-zero, block-later}
 use Rattle.block.proofs.Same.{of-same, same-of, same-parts}
 use Rattle.block.proofs.Passing.{every-at, HangsOn, and-true}
 use Rattle.block.proofs.Parts.{length-cut}
@@ -27,10 +28,10 @@ use Rattle.record_edits.specs.Written.{lay-point, point-block}
 use Rattle.record_edits.proofs.Edits.{stored-laid}
 use Rattle.merging.proofs.Slots.{few-slots}
 use Rattle.arriving.specs.Sent.{points-in, Few}
-use Rattle.arriving.proofs.OfPoints.{block-small, block-size}
+use Rattle.arriving.proofs.OfPoints.{block-size}
 use Rattle.apart.specs.Apart.{point-of}
 use Rattle.reply_form.specs.Parts.{point-laid-out, points-laid-out}
-use Rattle.reply_form.proofs.Points.{block-is, at-least, at-most, count-is, rest-size, points-are}
+use Rattle.reply_form.proofs.Points.{at-least, at-most, count-is, rest-size, points-are}
 
 -- ---- the points, one block after the other
 
@@ -40,17 +41,7 @@ test b k = same-list (encode-stored form-1 k (decode-stored form-1 b)) b
 points-sized : (n : ℕ) (r : List ℕ) → Bytes r → length r ≡ 512 * n → AllSized (upto n (point-of r))
 points-sized n r h e p m =
     let q = in-upto n (point-of r) m in
-    subst (λ (x : Stored). StoredSized x) (sym (q .2)) (stored-decoded (block-at r (q .0)) (block-small r h (q .0)) (block-length r (q .0) (omega (arith, q .1))))
-
-block-zero : (r : List ℕ) → cut r 0 512 ≡ block-at r 0
-unfolding block-at
-block-zero r = refl
-
-block-later : (r : List ℕ) (i : ℕ) → block-at (drop 512 r) i ≡ block-at r (suc i)
-block-later r i = block-is r i ∙ ap (block-at r) there
-  where
-    there : 1 + i ≡ suc i
-    there = omega arith
+    subst (λ (x : Stored). StoredSized x) (sym (q .2)) (stored-decoded (block-at r (q .0)) (block-bytes r h (q .0)) (block-length r (q .0) (omega (arith, q .1))))
 
 none : (l : List ℕ) → length l ≡ 0 → [] ≡ l
 none [] e = refl
@@ -73,7 +64,7 @@ points-same (suc n) position r h e =
     rest = length-drop 512 r ∙ omega arith
 
     first-size : length first ≡ 512
-    first-size = stored-length position (point-of r 0) (stored-decoded (block-at r 0) (block-small r h 0) (block-length r 0 (omega arith)))
+    first-size = stored-length position (point-of r 0) (stored-decoded (block-at r 0) (block-bytes r h 0) (block-length r 0 (omega arith)))
 
     later : upto n (point-of (drop 512 r)) ≡ upto n (λ i. point-of r (suc i))
     later = upto-same n (point-of (drop 512 r)) (λ i. point-of r (suc i)) (λ i l. ap (decode-stored form-1) (block-later r i))
@@ -117,8 +108,8 @@ module _ (reply : List ℕ) (whole : whole-reply reply ≡ true) (small : Bytes 
   unfolding decode-ask
   head-size =
       greeting-length 6 (decode-ask (block-at reply 0) .sender) (decode-ask (block-at reply 0) .addressee) (length reply / 512 - 1) (decode-ask (block-at reply 0) .clock)
-      (field-bound (block-at reply 0) 4 1 (block-small reply small 0) (omega (arith, head-block)), field-bound (block-at reply 0) 5 1 (block-small reply small 0) (omega (arith, head-block)))
-      (clock-decoded (cut (block-at reply 0) 8 96) (bytes-cut (block-at reply 0) 8 96 (block-small reply small 0)) (length-cut (block-at reply 0) 8 96 (omega (arith, head-block))))
+      (field-bound (block-at reply 0) 4 1 (block-bytes reply small 0) (omega (arith, head-block)), field-bound (block-at reply 0) 5 1 (block-bytes reply small 0) (omega (arith, head-block)))
+      (clock-decoded (cut (block-at reply 0) 8 96) (bytes-cut (block-at reply 0) 8 96 (block-bytes reply small 0)) (length-cut (block-at reply 0) 8 96 (omega (arith, head-block))))
 
   points-size : length (encode-points 1 (points-in rest)) ≡ length rest
   points-size =
@@ -170,8 +161,8 @@ module _ (reply : List ℕ) (whole : whole-reply reply ≡ true) (small : Bytes 
 
     pub laid-point : (i : ℕ) → i < length rest / 512 → Laid lay-point point-block (block-at rest i)
     laid-point i l =
-        stored-laid (1 + i) (point-of rest i) (block-at rest i) (near i l) (stored-decoded (block-at rest i) (block-small rest rest-small i) (rest-block i l)) (rest-block i l)
+        stored-laid (1 + i) (point-of rest i) (block-at rest i) (near i l) (stored-decoded (block-at rest i) (block-bytes rest rest-small i) (rest-block i l)) (rest-block i l)
         (sym (of-same (encode-stored form-1 (1 + i) (point-of rest i)) (block-at rest i) (point-ok i l)))
 
     pub few : Few rest
-    few i l = few-slots (block-at rest i) (block-small rest rest-small i) (rest-block i l) (laid-point i l)
+    few i l = few-slots (block-at rest i) (block-bytes rest rest-small i) (rest-block i l) (laid-point i l)

@@ -5,30 +5,21 @@ use mathlib.Core.Bool.{true, _&&_}
 use mathlib.Core.List.{List}
 use native.Mathlib.Omega.{arith}
 use lib.ListN.{length, take, drop, length-drop}
-use lib.Seq.{take-all, drop-drop}
 use lib.Dec.{leb, eqb}
 use borrow.Author.Tests.{leb-true, eqb-true}
 use Rattle.numbers.proofs.Tests.{and-left, and-right}
 use Rattle.block.specs.Fields.{upto}
-use Rattle.block.specs.Block.{block-at}
 use Rattle.block.proofs.Arrays.{upto-same}
+use Rattle.block.proofs.Runs.{block-of-drop, lent-rest}
 use Rattle.layout.specs.PointBlock.{form-1, decode-stored}
 use Rattle.layout.specs.Messages.{decode-reply}
 use Rattle.layout.specs.Calls.{reply-room, whole-reply}
 use Rattle.arriving.specs.Sent.{points-in}
 use Rattle.apart.specs.Apart.{point-of}
 
--- the blocks after the first
-pub block-is : (run : List ℕ) (i : ℕ) → block-at (drop 512 run) i ≡ block-at run (1 + i)
-unfolding block-at
-block-is run i = ap (take 512) (drop-drop (512 * i) 512 run ∙ ap (λ (o : ℕ). drop o run) there)
-  where
-    there : 512 + 512 * i ≡ 512 * (1 + i)
-    there = omega arith
-
 -- all but the first block, as they are lent
 pub rest-lent : (run : List ℕ) → take (length run - 512) (drop 512 run) ≡ drop 512 run
-rest-lent run = take-all (length run - 512) (drop 512 run) (omega (arith, length-drop 512 run))
+rest-lent run = lent-rest run 512
 
 -- as many points as there are blocks behind the head
 pub count-is : (run : List ℕ) → length (drop 512 run) / 512 ≡ length run / 512 - 1
@@ -38,7 +29,7 @@ pub points-are : (reply : List ℕ) → points-in (drop 512 reply) ≡ decode-re
 unfolding decode-reply
 points-are reply =
     ap (λ (n : ℕ). upto n (point-of (drop 512 reply))) (count-is reply)
-    ∙ upto-same (length reply / 512 - 1) (point-of (drop 512 reply)) (λ i. point-of reply (1 + i)) (λ i l. ap (decode-stored form-1) (block-is reply i))
+    ∙ upto-same (length reply / 512 - 1) (point-of (drop 512 reply)) (λ i. point-of reply (1 + i)) (λ i l. ap (decode-stored form-1) (block-of-drop reply 1 i))
 
 module _ (reply : List ℕ) (whole : whole-reply reply ≡ true) where
   pub whole-blocks : length reply % 512 ≡ 0

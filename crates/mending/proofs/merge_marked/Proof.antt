@@ -7,7 +7,7 @@ use Rattle.block.proofs.Numbers.{bytes-of}
 use Rattle.layout.specs.Clocks.{decode-clock}
 use Rattle.layout.specs.Image.{image-length, decode}
 use Rattle.image_edits.specs.Edits.{Canonical}
-use Rattle.arriving.proofs.OfPoints.{lent-block}
+use Rattle.block.proofs.Runs.{block-part}
 use Rattle.mending.proofs.Passing.{reached, none-reached, passed-on, still-ascends, still-joinable, still-room}
 use denote.Ref.{now}
 use native.Mathlib.Omega.{arith}
@@ -43,8 +43,8 @@ shared-slice-read-merge-if c = search needs
 
 merge-if-requires : tie.Need-merge-if-requires Inv-loop μ-loop
 merge-if-requires c κs =
-    let j = still-joinable (decode (now (c .before .before .before .before .before .before .before .before .before .before .args .image))) (decode-clock (now (c .before .before .before .before .before .before .before .before .before .before .args .clock))) (decode-clock (now (c .before .before .before .before .before .before .before .before .before .before .args .rows))) (now (c .before .before .before .before .before .before .before .before .before .before .args .points)) (now (c .before .before .before .before .before .before .before .before .before .before .args .marks)) (c .before .before .before .before .before .before .before .before .before .before .args .which) (c .before .before .before .before .loop .i) (c .before .before .before .before .before .before .before .before .before .before .pre .6) (omega arith) (c .before .before .before .before .before .before .before .before .before .before .pre .7) (decode (c .before .before .before .before .loop .image)) _ (c .before .before .before .before .loop .inv .0) (lent-block (now (c .before .before .before .before .before .before .before .before .before .before .args .points)) (bytes-of (now (c .before .before .before .before .before .before .before .before .before .before .args .points)) (c .before .before .before .before .before .before .before .before .shared-slice-known .given)) (c .before .before .before .before .loop .i)) (c .before .before .before .before .before .before .before .before .before .before .pre .5) in
-    (c .before .before .before .before .loop .inv .2, c .before .before .before .before .loop .inv .1, still-ascends (decode (now (c .before .before .before .before .before .before .before .before .before .before .args .image))) (decode-clock (now (c .before .before .before .before .before .before .before .before .before .before .args .clock))) (decode-clock (now (c .before .before .before .before .before .before .before .before .before .before .args .rows))) (now (c .before .before .before .before .before .before .before .before .before .before .args .points)) (now (c .before .before .before .before .before .before .before .before .before .before .args .marks)) (c .before .before .before .before .before .before .before .before .before .before .args .which) (c .before .before .before .before .loop .i) (c .before .before .before .before .before .before .before .before .before .before .pre .6) (omega arith) (c .before .before .before .before .before .before .before .before .before .before .pre .7) (decode (c .before .before .before .before .loop .image)) _ (c .before .before .before .before .loop .inv .0) (lent-block (now (c .before .before .before .before .before .before .before .before .before .before .args .points)) (bytes-of (now (c .before .before .before .before .before .before .before .before .before .before .args .points)) (c .before .before .before .before .before .before .before .before .shared-slice-known .given)) (c .before .before .before .before .loop .i)) (c .before .before .before .before .before .before .before .before .before .before .pre .2), j .0, j .1, c .before .before .before .before .before .before .before .before .before .before .pre .3, c .before .before .before .before .before .before .before .before .before .before .pre .4, j .2, still-room (decode (now (c .before .before .before .before .before .before .before .before .before .before .args .image))) (decode-clock (now (c .before .before .before .before .before .before .before .before .before .before .args .clock))) (decode-clock (now (c .before .before .before .before .before .before .before .before .before .before .args .rows))) (now (c .before .before .before .before .before .before .before .before .before .before .args .points)) (now (c .before .before .before .before .before .before .before .before .before .before .args .marks)) (c .before .before .before .before .before .before .before .before .before .before .args .which) (c .before .before .before .before .loop .i) (c .before .before .before .before .before .before .before .before .before .before .pre .6) (omega arith) (c .before .before .before .before .before .before .before .before .before .before .pre .7) (decode (c .before .before .before .before .loop .image)) _ (c .before .before .before .before .loop .inv .0) (lent-block (now (c .before .before .before .before .before .before .before .before .before .before .args .points)) (bytes-of (now (c .before .before .before .before .before .before .before .before .before .before .args .points)) (c .before .before .before .before .before .before .before .before .shared-slice-known .given)) (c .before .before .before .before .loop .i)) (c .before .before .before .before .before .before .before .before .before .before .pre .8))
+    let j = still-joinable (decode (now (c .before .before .before .before .before .before .before .before .before .before .args .image))) (decode-clock (now (c .before .before .before .before .before .before .before .before .before .before .args .clock))) (decode-clock (now (c .before .before .before .before .before .before .before .before .before .before .args .rows))) (now (c .before .before .before .before .before .before .before .before .before .before .args .points)) (now (c .before .before .before .before .before .before .before .before .before .before .args .marks)) (c .before .before .before .before .before .before .before .before .before .before .args .which) (c .before .before .before .before .loop .i) (c .before .before .before .before .before .before .before .before .before .before .pre .6) (omega arith) (c .before .before .before .before .before .before .before .before .before .before .pre .7) (decode (c .before .before .before .before .loop .image)) _ (c .before .before .before .before .loop .inv .0) (block-part (now (c .before .before .before .before .before .before .before .before .before .before .args .points)) (c .before .before .before .before .loop .i)) (c .before .before .before .before .before .before .before .before .before .before .pre .5) in
+    (c .before .before .before .before .loop .inv .2, c .before .before .before .before .loop .inv .1, still-ascends (decode (now (c .before .before .before .before .before .before .before .before .before .before .args .image))) (decode-clock (now (c .before .before .before .before .before .before .before .before .before .before .args .clock))) (decode-clock (now (c .before .before .before .before .before .before .before .before .before .before .args .rows))) (now (c .before .before .before .before .before .before .before .before .before .before .args .points)) (now (c .before .before .before .before .before .before .before .before .before .before .args .marks)) (c .before .before .before .before .before .before .before .before .before .before .args .which) (c .before .before .before .before .loop .i) (c .before .before .before .before .before .before .before .before .before .before .pre .6) (omega arith) (c .before .before .before .before .before .before .before .before .before .before .pre .7) (decode (c .before .before .before .before .loop .image)) _ (c .before .before .before .before .loop .inv .0) (block-part (now (c .before .before .before .before .before .before .before .before .before .before .args .points)) (c .before .before .before .before .loop .i)) (c .before .before .before .before .before .before .before .before .before .before .pre .2), j .0, j .1, c .before .before .before .before .before .before .before .before .before .before .pre .3, c .before .before .before .before .before .before .before .before .before .before .pre .4, j .2, still-room (decode (now (c .before .before .before .before .before .before .before .before .before .before .args .image))) (decode-clock (now (c .before .before .before .before .before .before .before .before .before .before .args .clock))) (decode-clock (now (c .before .before .before .before .before .before .before .before .before .before .args .rows))) (now (c .before .before .before .before .before .before .before .before .before .before .args .points)) (now (c .before .before .before .before .before .before .before .before .before .before .args .marks)) (c .before .before .before .before .before .before .before .before .before .before .args .which) (c .before .before .before .before .loop .i) (c .before .before .before .before .before .before .before .before .before .before .pre .6) (omega arith) (c .before .before .before .before .before .before .before .before .before .before .pre .7) (decode (c .before .before .before .before .loop .image)) _ (c .before .before .before .before .loop .inv .0) (block-part (now (c .before .before .before .before .before .before .before .before .before .before .args .points)) (c .before .before .before .before .loop .i)) (c .before .before .before .before .before .before .before .before .before .before .pre .8))
 
 add-i : tie.Need-add-i Inv-loop μ-loop
 add-i c = search needs
@@ -53,7 +53,7 @@ loop-less : tie.Need-loop-less Inv-loop μ-loop
 loop-less c = search needs
 
 loop-again : tie.Need-loop-again Inv-loop μ-loop
-loop-again c = (passed-on (decode (now (c .before .before .before .before .before .before .before .before .before .before .before .before .before .args .image))) (decode-clock (now (c .before .before .before .before .before .before .before .before .before .before .before .before .before .args .clock))) (decode-clock (now (c .before .before .before .before .before .before .before .before .before .before .before .before .before .args .rows))) (now (c .before .before .before .before .before .before .before .before .before .before .before .before .before .args .points)) (now (c .before .before .before .before .before .before .before .before .before .before .before .before .before .args .marks)) (c .before .before .before .before .before .before .before .before .before .before .before .before .before .args .which) (c .before .before .before .before .before .before .before .loop .i) (c .before .before .before .before .before .before .before .before .before .before .before .before .before .pre .6) (omega arith) (c .before .before .before .before .before .before .before .before .before .before .before .before .before .pre .7) (decode (c .before .before .before .before .before .before .before .loop .image)) _ (c .before .before .before .before .before .before .before .loop .inv .0) (lent-block (now (c .before .before .before .before .before .before .before .before .before .before .before .before .before .args .points)) (bytes-of (now (c .before .before .before .before .before .before .before .before .before .before .before .before .before .args .points)) (c .before .before .before .before .before .before .before .before .before .before .before .shared-slice-known .given)) (c .before .before .before .before .before .before .before .loop .i)) _ (c .before .before .merge-if .ensures .0), c .before .before .merge-if .ensures .1, search needs, omega arith)
+loop-again c = (passed-on (decode (now (c .before .before .before .before .before .before .before .before .before .before .before .before .before .args .image))) (decode-clock (now (c .before .before .before .before .before .before .before .before .before .before .before .before .before .args .clock))) (decode-clock (now (c .before .before .before .before .before .before .before .before .before .before .before .before .before .args .rows))) (now (c .before .before .before .before .before .before .before .before .before .before .before .before .before .args .points)) (now (c .before .before .before .before .before .before .before .before .before .before .before .before .before .args .marks)) (c .before .before .before .before .before .before .before .before .before .before .before .before .before .args .which) (c .before .before .before .before .before .before .before .loop .i) (c .before .before .before .before .before .before .before .before .before .before .before .before .before .pre .6) (omega arith) (c .before .before .before .before .before .before .before .before .before .before .before .before .before .pre .7) (decode (c .before .before .before .before .before .before .before .loop .image)) _ (c .before .before .before .before .before .before .before .loop .inv .0) (block-part (now (c .before .before .before .before .before .before .before .before .before .before .before .before .before .args .points)) (c .before .before .before .before .before .before .before .loop .i)) _ (c .before .before .merge-if .ensures .0), c .before .before .merge-if .ensures .1, search needs, omega arith)
 
 same-length : tie.Need-same-length Inv-loop μ-loop
 same-length c = search needs

@@ -7,7 +7,7 @@ use mathlib.Core.List.{List}
 use Rattle.layout.specs.Clocks.{decode-clock}
 use Rattle.layout.specs.PointBlock.{form-1, decode-stored}
 use Rattle.layout.specs.Image.{decode}
-use Rattle.arriving.proofs.OfPoints.{lent-block}
+use Rattle.block.proofs.Runs.{block-part}
 use Rattle.mending.specs.Mended.{mend}
 use Rattle.tallying.specs.Tallied.{Ready, Weighed}
 use Rattle.tallying.proofs.Tally.{mark-low, Tallying, tally-none, tally-more, tally-all}
@@ -44,7 +44,7 @@ part-weigh-point-end : tie.Need-part-weigh-point-end Inv-loop μ-loop
 part-weigh-point-end c = search needs
 
 weigh-point-requires : tie.Need-weigh-point-requires Inv-loop μ-loop
-weigh-point-requires c κs = (c .before .before .before .before .before .before .before .before .pre .0, c .before .before .before .before .before .before .before .before .pre .1, c .before .before .before .before .before .before .before .before .pre .2, c .before .before .before .before .before .before .before .before .pre .3, subst (Ready (decode (now (c .before .before .before .before .before .before .before .before .args .image))) (decode-clock (now (c .before .before .before .before .before .before .before .before .args .clock)))) (sym (lent-block (now (c .before .before .before .before .before .before .before .before .args .points)) (bytes-of (now (c .before .before .before .before .before .before .before .before .args .points)) (c .before .before .before .before .before .before .shared-slice-known2 .given)) (c .before .before .loop .i))) (c .before .before .before .before .before .before .before .before .pre .4 (c .before .before .loop .i) (c .before .loop-test .taken)), c .before .before .before .before .before .before .before .before .pre .5)
+weigh-point-requires c κs = (c .before .before .before .before .before .before .before .before .pre .0, c .before .before .before .before .before .before .before .before .pre .1, c .before .before .before .before .before .before .before .before .pre .2, c .before .before .before .before .before .before .before .before .pre .3, subst (Ready (decode (now (c .before .before .before .before .before .before .before .before .args .image))) (decode-clock (now (c .before .before .before .before .before .before .before .before .args .clock)))) (sym (block-part (now (c .before .before .before .before .before .before .before .before .args .points)) (c .before .before .loop .i))) (c .before .before .before .before .before .before .before .before .pre .4 (c .before .before .loop .i) (c .before .loop-test .taken)), c .before .before .before .before .before .before .before .before .pre .5)
 
 as-mark-requires : tie.Need-as-mark-requires Inv-loop μ-loop
 as-mark-requires c κs = search needs
@@ -74,7 +74,7 @@ loop-less : tie.Need-loop-less Inv-loop μ-loop
 loop-less c = search needs
 
 loop-again : tie.Need-loop-again Inv-loop μ-loop
-loop-again c = tally-more (decode (now (c .before .before .before .before .before .before .before .before .before .before .before .before .args .image))) (decode-clock (now (c .before .before .before .before .before .before .before .before .before .before .before .before .args .clock))) (decode-clock (now (c .before .before .before .before .before .before .before .before .before .before .before .before .args .rows))) (now (c .before .before .before .before .before .before .before .before .before .before .before .before .args .points)) (c .before .before .before .before .before .before .loop .i) (c .before .before .before .before .before .before .loop .many) (c .before .before .before .before .before .before .loop .coming) (c .before .before .before .before .before .before .loop .going) (c .before .before .before .before .before .before .loop .marks) (c .before .before .before .before .before .before .loop .inv) (c .before .before .before .before .before .loop-test .taken) (omega (arith, c .before .before .before .before .before .before .before .before .before .before .before .before .pre .6, c .before .before .before .before .before .before .before .before .before .before .before .before .pre .7, c .before .before .before .before .before .loop-test .taken)) (c .before .before .before .weigh-point .result .many) (c .before .before .before .weigh-point .result .comes) (c .before .before .before .weigh-point .result .goes) (subst (λ (b : List ℕ). Weighed (decode (now (c .before .before .before .before .before .before .before .before .before .before .before .before .args .image))) (decode-clock (now (c .before .before .before .before .before .before .before .before .before .before .before .before .args .rows))) (mend (decode (now (c .before .before .before .before .before .before .before .before .before .before .before .before .args .image))) (decode-clock (now (c .before .before .before .before .before .before .before .before .before .before .before .before .args .clock))) (decode-stored form-1 b)) (c .before .before .before .weigh-point .result .many) (c .before .before .before .weigh-point .result .comes) (c .before .before .before .weigh-point .result .goes)) (lent-block (now (c .before .before .before .before .before .before .before .before .before .before .before .before .args .points)) (bytes-of (now (c .before .before .before .before .before .before .before .before .before .before .before .before .args .points)) (c .before .before .before .before .before .before .before .before .before .before .shared-slice-known2 .given)) (c .before .before .before .before .before .before .loop .i)) (c .before .before .before .weigh-point .ensures)) _ _ _ _ refl (ap (λ (x : ℕ). c .before .before .before .before .before .before .loop .coming + x) (c .before .as-mark .ensures)) (ap (λ (x : ℕ). c .before .before .before .before .before .before .loop .going + x) (c .as-mark2 .ensures)) (c .before .as-mark .ensures)
+loop-again c = tally-more (decode (now (c .before .before .before .before .before .before .before .before .before .before .before .before .args .image))) (decode-clock (now (c .before .before .before .before .before .before .before .before .before .before .before .before .args .clock))) (decode-clock (now (c .before .before .before .before .before .before .before .before .before .before .before .before .args .rows))) (now (c .before .before .before .before .before .before .before .before .before .before .before .before .args .points)) (c .before .before .before .before .before .before .loop .i) (c .before .before .before .before .before .before .loop .many) (c .before .before .before .before .before .before .loop .coming) (c .before .before .before .before .before .before .loop .going) (c .before .before .before .before .before .before .loop .marks) (c .before .before .before .before .before .before .loop .inv) (c .before .before .before .before .before .loop-test .taken) (omega (arith, c .before .before .before .before .before .before .before .before .before .before .before .before .pre .6, c .before .before .before .before .before .before .before .before .before .before .before .before .pre .7, c .before .before .before .before .before .loop-test .taken)) (c .before .before .before .weigh-point .result .many) (c .before .before .before .weigh-point .result .comes) (c .before .before .before .weigh-point .result .goes) (subst (λ (b : List ℕ). Weighed (decode (now (c .before .before .before .before .before .before .before .before .before .before .before .before .args .image))) (decode-clock (now (c .before .before .before .before .before .before .before .before .before .before .before .before .args .rows))) (mend (decode (now (c .before .before .before .before .before .before .before .before .before .before .before .before .args .image))) (decode-clock (now (c .before .before .before .before .before .before .before .before .before .before .before .before .args .clock))) (decode-stored form-1 b)) (c .before .before .before .weigh-point .result .many) (c .before .before .before .weigh-point .result .comes) (c .before .before .before .weigh-point .result .goes)) (block-part (now (c .before .before .before .before .before .before .before .before .before .before .before .before .args .points)) (c .before .before .before .before .before .before .loop .i)) (c .before .before .before .weigh-point .ensures)) _ _ _ _ refl (ap (λ (x : ℕ). c .before .before .before .before .before .before .loop .coming + x) (c .before .as-mark .ensures)) (ap (λ (x : ℕ). c .before .before .before .before .before .before .loop .going + x) (c .as-mark2 .ensures)) (c .before .as-mark .ensures)
 
 same-length : tie.Need-same-length Inv-loop μ-loop
 same-length c = omega (arith, c .before .loop .inv .size, c .before .before .before .before .before .before .before .pre .7)
