@@ -1,6 +1,6 @@
 -- The records of a lent image, asked for a message's dots (AtHome). Assumes nothing.
 use Prim.Native.Nat.{ℕ, _+_, _*_, _-_, _≤_, _<_}
-use mathlib.Core.Path.{_≡_, ap, sym, _∙_, subst}
+use mathlib.Core.Path.{_≡_, refl, ap, sym, _∙_, subst}
 use mathlib.Core.Bool.{Bool, true, not}
 use mathlib.Core.List.{List}
 use native.Mathlib.Omega.{arith}
@@ -9,14 +9,15 @@ use Rattle.numbers.specs.declared.Dot.{Dot}
 use Rattle.numbers.specs.declared.Key.{Key}
 use Rattle.numbers.specs.Words.{some?, ascends?}
 use Rattle.numbers.proofs.Tests.{_∈_}
-use Rattle.block.specs.Fields.{field}
+use Rattle.block.specs.Fields.{field, upto}
 use Rattle.block.proofs.Numbers.{Bytes}
 use Rattle.block.proofs.Arrays.{getD-in, upto-at, upto-length}
 use Rattle.meaning.specs.Object.{same-contents, Version, version-before, has-dot}
 use Rattle.meaning.specs.State.{Stored}
 use Rattle.layout.specs.PointBlock.{form-1, decode-point, decode-stored}
 use Rattle.layout.specs.Image.{image-length, decode, goodImage}
-use Rattle.image.specs.Apart.{point-at}
+use Rattle.apart.specs.Apart.{point-of}
+use Rattle.image.specs.Parts.{Few}
 use Rattle.image.specs.Places.{no-point, Point-in}
 use Rattle.block.proofs.Runs.{block-part}
 use Rattle.dots.specs.declared.Found.{Found}
@@ -24,16 +25,24 @@ use Rattle.dots.specs.declared.Found.the-variants.{At, Before}
 use Rattle.object.specs.Versions.{no-version, Version-in}
 use Rattle.record.proofs.Reading.{version-at, versions-are}
 use Rattle.record_edits.specs.Written.{Written}
+use Rattle.image.proofs.Loops.{points-behind}
 use Rattle.store.proofs.Lent.{good-now, good-canonical}
 use Rattle.store.proofs.Stripped.{says}
-use Rattle.store.proofs.Record.{record-none}
+use Rattle.store.proofs.Record.{record-none, lent-few}
 use Rattle.checking.specs.Points.{record-clashes, stored-somewhere, clashes-beside}
+use Rattle.checking.proofs.Looking.{records-read}
 use Rattle.checking.proofs.AtHome.{of-none, of-record, found-here, not-here}
 
--- ---- the record as it is lent
+-- ---- the records as they are lent
 
-pub record-lent : (img : List ℕ) (i : ℕ) (d : Dot) (r t : Bool) → r ≡ has-dot (decode-stored form-1 (take (512 * (3 + i) + 512 - 512 * (3 + i)) (drop (512 * (3 + i)) img)) .object .versions) d → r ≡ t → has-dot (point-at img i .object .versions) d ≡ t
-record-lent img i d r t e q = sym (ap (λ (b : List ℕ). has-dot (decode-stored form-1 b .object .versions) d) (block-part img (3 + i))) ∙ sym e ∙ q
+-- each counts few versions
+pub records-few : (img : List ℕ) → Bytes img → length img ≡ image-length → goodImage img ≡ true → (n : ℕ) → n ≡ length (decode img .points) → Few img n
+records-few img small size good n r i l =
+    subst (λ (b : List ℕ). field b 5 1 ≤ 8) (block-part img (3 + i)) (lent-few img small size good (getD (decode img .points) i no-point .key) i (omega (arith, r), refl))
+
+pub somewhere : (img : List ℕ) (n : ℕ) (d : Dot) (r : Bool) → n ≡ length (decode img .points)
+    → r ≡ some? (λ p. has-dot (p .object .versions) d) (upto n (point-of (take (length img - 1536) (drop 1536 img)))) → r ≡ stored-somewhere (decode img .points) d
+somewhere img n d r e q = q ∙ ap (λ (ps : List Stored). stored-somewhere ps d) (points-behind img n ∙ sym (records-read img n e))
 
 -- ---- a version v of the message, and the block p of its point's record; d is the version's dot as it was read, and f what the search for d answered
 module _ (ps : List Stored) (p : List ℕ) (few : field p 5 1 ≤ 8) (v : Version) (d : Dot) (is : d ≡ v .dot) (f : Found) (looked : Version-in (decode-point form-1 p .object .versions) d f) (i : ℕ) where
