@@ -7,6 +7,7 @@ use Rattle.numbers.specs.declared.Key.{Key}
 use Rattle.numbers.specs.Numbers.{controller, counter, point}
 use Rattle.numbers.specs.Dot.{same-dot, dot-before}
 use Rattle.numbers.specs.Key.{same-key, key-before}
+use Rattle.numbers.proofs.Tests.{by-test, never}
 use Rattle.numbers.proofs.Lists.{Tied}
 use Rattle.numbers.proofs.Orders.{Order, by-pair, same-pairs, pair-same, pair-tied}
 
@@ -46,3 +47,14 @@ dots-tied d e p = subst (λ (x : Dot). Tied dot-before d x) p (dot-order .itself
 
 pub keys-tied : (a b : Key) → a ≡ b → Tied key-before a b
 keys-tied a b p = subst (λ (x : Key). Tied key-before a x) p (key-order .itself a, key-order .itself a)
+
+-- a key that is not another is not the other's
+pub other-way : (a b : Key) → same-key a b ≡ false → same-key b a ≡ false
+other-way a b t = by-test (same-key b a) (λ u. never (subst (λ (x : Key). same-key x b ≡ true) (same-keys b a u) (key-itself b)) t) (λ u. u)
+
+-- a key that comes before another is another
+pub before-other : (a b : Key) → key-before a b ≡ true → same-key a b ≡ false
+before-other a b t = by-test (same-key a b) (λ u. never (subst (λ (x : Key). key-before x b ≡ true) (same-keys a b u) t) (key-order .itself b)) (λ u. u)
+
+pub other-before : (a b : Key) → key-before a b ≡ true → same-key b a ≡ false
+other-before a b t = other-way a b (before-other a b t)

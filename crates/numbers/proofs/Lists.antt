@@ -7,7 +7,7 @@ use mathlib.Core.List.{List, [], _∷_, _++_, List·Memᴰ·append-cases, List·
 use native.Mathlib.Omega.{arith}
 use lib.ListN.{length, getD}
 use Rattle.numbers.specs.Words.{if_then_else_, every, cons-if, keep, some?, all?, place, place-all, map, concat-map}
-use Rattle.numbers.proofs.Tests.{by-test, never, and-left, and-right, and-both, or-cases, or-inl, or-inr, _∈_, here, there}
+use Rattle.numbers.proofs.Tests.{by-test, never, and-left, and-right, and-both, and-true, or-cases, or-inl, or-inr, _∈_, here, there}
 
 -- membership in an append
 pub in-left : {A : Type 0} (xs ys : List A) {v : A} → v ∈ xs → v ∈ xs ++ ys
@@ -76,6 +76,12 @@ module _ {A : Type 0} where
   pub keep-none : (f : A → Bool) (xs : List A) → ((x : A) → x ∈ xs → f x ≡ false) → keep f xs ≡ []
   keep-none f [] h = refl
   keep-none f (x ∷ xs) h = rw (h x (here refl)) (keep-none f xs (λ y m. h y (there m)))
+
+  -- tests that say the same of each keep the same
+  pub keep-same : (f g : A → Bool) (xs : List A) → ((x : A) → x ∈ xs → f x ≡ g x) → keep f xs ≡ keep g xs
+  keep-same f g [] h = refl
+  keep-same f g (x ∷ xs) h =
+      ap (λ (b : Bool). cons-if b x (keep f xs)) (h x (here refl)) ∙ ap (cons-if (g x) x) (keep-same f g xs (λ y m. h y (there m)))
 
   -- what stands in an ascending list after x came to its place
   pub in-place : (b : A → A → Bool) (x : A) (ys : List A) {v : A} → v ∈ place b x ys → (v ≡ x) ⊎ (v ∈ ys)
@@ -167,3 +173,13 @@ pub data Passed : List Bool → Type 0 where
 pub all-passed : {bs : List Bool} → Passed bs → every bs ≡ true
 all-passed passed = refl
 all-passed (_and-also_ {b = b} {bs = bs} p ps) = and-both b (every bs) p (all-passed ps)
+
+-- one of them fails, and so do all
+pub failed : (bs : List Bool) (i : ℕ) → getD bs i true ≡ false → false ≡ every bs
+failed bs i t = by-test (every bs) (λ e. never (clause bs e i) t) (λ e. sym e)
+
+-- those before the last pass, and so the last is what all are
+pub last-test : (bs : List Bool) (b : Bool) → Passed bs → b ≡ every (bs ++ (b ∷ []))
+last-test bs true passed = refl
+last-test bs false passed = refl
+last-test bs b (_and-also_ {b = a} {bs = cs} p ps) = last-test cs b ps ∙ sym (and-true a (every (cs ++ (b ∷ []))) p)
