@@ -6,7 +6,7 @@ use mathlib.Core.Logic.{_⊎_, inl, inr, ⊎-elim}
 use native.Mathlib.Nat.{mul-suc, mul-zero, le-of-suc-le-suc}
 use native.Mathlib.Omega.{arith}
 use lib.ListN.{length, take, drop, getD, length-append}
-use Rattle.numbers.specs.Words.{concat-map}
+use Rattle.numbers.specs.Words.{map, concat-map}
 use Rattle.block.specs.Fields.{cut, splice, upto}
 use Rattle.block.proofs.Parts.{cut-past, cut-first}
 
@@ -72,6 +72,10 @@ module _ {A : Type 0} where
 
   pub only : (P : A → Type 0) (y : A) → P y → (x : A) → List·Memᴰ x (y ∷ []) → P x
   only P y p x m = ⊎-elim (λ e. subst P (sym e) p) (λ h. absurd (List·Memᴰ·not-nil h)) (List·Memᴰ·cases-cons m)
+
+pub map-upto : {A B : Type 0} (g : A → B) (n : ℕ) (f : ℕ → A) → map g (upto n f) ≡ upto n (λ i. g (f i))
+map-upto g zero f = refl
+map-upto g (suc n) f = λ k. g (f 0) ∷ map-upto g n (λ i. f (suc i)) k
 
 -- each of a list is written in w bytes
 abbrev pub EachOf : {A : Type 0} → ℕ → (A → List ℕ) → List A → Type 0

@@ -1,26 +1,26 @@
 -- When bytes are what they should be, part by part: the test `same-list` of an append, of fields, of padding, of arrays and of a made block.
 -- Assumes nothing.
-use Prim.Native.Nat.{ℕ, zero, suc, _+_, _*_, _-_, _^_, _≤_, _<_}
+use Prim.Native.Nat.{ℕ, zero, suc, _+_, _*_, _^_, _≤_, _<_}
 use mathlib.Core.Path.{_≡_, refl, ap, ap₂, sym, _∙_, subst}
-use mathlib.Core.Bool.{Bool, true, false, _&&_}
-use mathlib.Core.List.{List, [], _∷_, _++_, append-nil, List·Memᴰ, List·Memᴰ·head, List·Memᴰ·tail, List·Memᴰ·not-nil, List·Memᴰ·cases-cons}
-use mathlib.Core.Logic.{⊎-elim}
+use mathlib.Core.Bool.{Bool, true, _&&_}
+use mathlib.Core.List.{List, [], _∷_, _++_, List·Memᴰ}
 use native.Mathlib.Omega.{arith}
 use native.Mathlib.Nat.{zero-add, mul-suc, mul-zero, mul-le-mul-left}
 use lib.ListN.{length, take, drop, length-append, length-take, length-drop, length-replicate, take-append-drop}
-use lib.Seq.{take-at, take-all, drop-drop}
+use lib.Seq.{take-at, drop-at, take-add, take-all, drop-drop}
 use lib.Dec.{eqb}
 use borrow.Author.Tests.{eqb-true, eq-eqb}
 use Rattle.numbers.specs.Words.{every, all?, concat-map, same-list}
 use Rattle.numbers.proofs.Tests.{same-test, and-left, and-right, and-both, and-group}
 use Rattle.block.specs.declared.Sums.{Sums}
 use Rattle.block.specs.Fields.{le, number, cut, field, zeros, pad, upto}
-use Rattle.block.specs.Check.{sums-from, sums, seal, sealed}
+use Rattle.block.specs.Check.{sums, seal, sealed}
 use Rattle.block.specs.Block.{make-block}
 use Rattle.block.proofs.Parts.{length-cut, cut-cut, pad-length}
-use Rattle.block.proofs.Numbers.{Bytes, bytes-cut, le-length, number-le, le-number}
+use Rattle.block.proofs.Numbers.{Bytes, bytes-cut, le-length, number-le, le-field}
 use Rattle.block.proofs.Arrays.{upto-same, upto-length, in-upto, array-length}
-use Rattle.block.proofs.Checked.{sums-bound, sums-of-body, seal-length, seal-sealed}
+use Rattle.block.proofs.Passing.{every-true}
+use Rattle.block.proofs.Checked.{sums-of-body, seal-sealed}
 
 -- ---- equal lists pass the test, and lists that pass it are equal
 
@@ -57,10 +57,7 @@ same-parts x y b n p q = same-append x y b (omega arith) ∙ ap (λ (m : ℕ). s
 
 -- a field that is written back as it was read is the same
 pub same-field : (b : List ℕ) (o n : ℕ) → Bytes b → o + n ≤ length b → same-list (le n (field b o n)) (cut b o n) ≡ true
-unfolding field
-same-field b o n h l =
-    same-of (le n (number (cut b o n))) (cut b o n)
-    (ap (λ (m : ℕ). le m (number (cut b o n))) (sym (length-cut b o n l)) ∙ le-number (cut b o n) (bytes-cut b o n h))
+same-field b o n h l = same-of (le n (field b o n)) (cut b o n) (le-field b o n h l)
 
 -- a field that should have a certain number is the same where it has it
 pub same-number : (b : List ℕ) (o n v : ℕ) → Bytes b → o + n ≤ length b → v < 256 ^ n → same-list (le n v) (cut b o n) ≡ eqb (field b o n) v
@@ -82,6 +79,31 @@ same-zeros zero [] e = refl
 same-zeros zero (x ∷ xs) e = absurd (omega arith)
 same-zeros (suc n) [] e = absurd (omega arith)
 same-zeros (suc n) (x ∷ xs) e = ap₂ _&&_ (eqb-swap 0 x) (same-zeros n xs (omega arith))
+
+-- ---- two parts one behind the other
+
+pub same-cut : (x y b : List ℕ) (o m n : ℕ) → length x ≡ m → length y ≡ n → o + (m + n) ≤ length b
+    → same-list (x ++ y) (cut b o (m + n)) ≡ (same-list x (cut b o m) && same-list y (cut b (o + m) n))
+same-cut x y b o m n p q h =
+    ap (same-list (x ++ y)) (take-add m n (drop o b) ∙ ap (λ (l : List ℕ). cut b o m ++ take n l) (drop-drop m o b))
+    ∙ same-parts x y (cut b o m ++ cut b (o + m) n) m p
+    (length-append (cut b o m) (cut b (o + m) n) ∙ omega (arith, length-cut b o m (omega arith), length-cut b (o + m) n (omega arith)))
+    ∙ ap₂ (λ (u v : List ℕ). same-list x u && same-list y v)
+    (take-at (cut b o m) (cut b (o + m) n) m (length-cut b o m (omega arith)))
+    (drop-at (cut b o m) (cut b (o + m) n) m (length-cut b o m (omega arith)))
+
+-- the first passes a test or not
+pub same-then : (x y b : List ℕ) (o m n : ℕ) → length x ≡ m → length y ≡ n → o + (m + n) ≤ length b → (t : Bool) → same-list x (cut b o m) ≡ t
+    → same-list (x ++ y) (cut b o (m + n)) ≡ (t && same-list y (cut b (o + m) n))
+same-then x y b o m n p q h t e = same-cut x y b o m n p q h ∙ ap (λ (u : Bool). u && same-list y (cut b (o + m) n)) e
+
+abbrev pub zero-at : List ℕ → ℕ → ℕ → Bool
+zero-at b o n = all? (λ x. eqb x 0) (cut b o n)
+
+-- the first is of zeros
+pub zero-then : (y b : List ℕ) (o m n : ℕ) → length y ≡ n → o + (m + n) ≤ length b
+    → same-list (zeros m ++ y) (cut b o (m + n)) ≡ (zero-at b o m && same-list y (cut b (o + m) n))
+zero-then y b o m n q h = same-then (zeros m) y b o m n (length-replicate m zero) q h (zero-at b o m) (same-zeros m (cut b o m) (length-cut b o m (omega arith)))
 
 -- ---- arrays
 
@@ -125,6 +147,19 @@ same-array {A} w enc dec (suc n) b e size =
         ap (λ (xs : List A). length (concat-map enc xs)) (upto-same n (λ i. dec (cut b (w * suc i) w)) (λ i. dec (cut (drop w b) (w * i) w)) (λ i l. ap dec (later i)))
         ∙ sizes n (drop w b) (length-drop w b ∙ omega (arith, mul-suc w n)) in
         omega (arith, e, same, mul-suc w n)
+
+-- an array that is written back, where each of its parts is
+pub array-again : {A : Type 0} (w : ℕ) (enc : A → List ℕ) (dec : List ℕ → A) (n : ℕ) (b : List ℕ) → Bytes b → length b ≡ w * n
+    → ((l : List ℕ) → length l ≡ w → length (enc (dec l)) ≡ w)
+    → ((l : List ℕ) → length l ≡ w → Bytes l → enc (dec l) ≡ l)
+    → concat-map enc (upto n (λ i. dec (cut b (w * i) w))) ≡ b
+array-again w enc dec n b h e size same =
+    of-same (concat-map enc (upto n (λ i. dec (cut b (w * i) w)))) b
+    (same-array w enc dec n b e size
+    ∙ every-true n (λ i. same-list (enc (dec (cut b (w * i) w))) (cut b (w * i) w))
+    (λ i l.
+    same-of (enc (dec (cut b (w * i) w))) (cut b (w * i) w)
+    (same (cut b (w * i) w) (length-cut b (w * i) w (omega (arith, e, mul-le-mul-left w l, mul-suc w i))) (bytes-cut b (w * i) w h))))
 
 -- ---- a made block
 

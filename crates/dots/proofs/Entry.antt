@@ -1,6 +1,6 @@
 -- What is asked of one listed dot, test by test. Assumes nothing.
 use Prim.Native.Nat.{ℕ, _≤_, _<_}
-use mathlib.Core.Path.{_≡_, refl, sym}
+use mathlib.Core.Path.{_≡_, sym}
 use mathlib.Core.Bool.{Bool, true, false, _&&_}
 use mathlib.Core.List.{List, [], _∷_}
 use lib.ListN.{getD}
@@ -9,8 +9,8 @@ use borrow.Author.Tests.{le-leb, lt-leb}
 use Rattle.numbers.specs.declared.Controller.{Controller}
 use Rattle.numbers.specs.Numbers.{Crew, last-counter, is-controller, is-counter, is-point, is-job}
 use Rattle.numbers.specs.Key.{is-key}
-use Rattle.numbers.proofs.Tests.{by-test, never, and-both}
-use Rattle.numbers.proofs.Lists.{clause, passed, _and-also_, all-passed}
+use Rattle.numbers.proofs.Tests.{by-test, and-both, and-first, and-second}
+use Rattle.numbers.proofs.Lists.{clause, failed, last-test, passed, _and-also_, all-passed}
 use Rattle.numbers.proofs.Controllers.{crew-is, is-crew}
 use Rattle.meaning.specs.CrewTable.{CrewTable, holds}
 use Rattle.meaning.specs.Clock.{Clock, in-clock}
@@ -18,15 +18,6 @@ use Rattle.meaning.specs.State.{Listed}
 use Rattle.meaning.specs.Good.{listed-formed}
 use Rattle.dots.specs.DotsGood.{in-its-list}
 use Rattle.dots.specs.Entries.{entry-good}
-use Rattle.dots.proofs.Written.{failed, last-test}
-
-and-first : (a b : Bool) → a ≡ false → (a && b) ≡ false
-and-first true b e = never refl e
-and-first false b e = refl
-
-and-second : (a b : Bool) → b ≡ false → (a && b) ≡ false
-and-second true b e = e
-and-second false b e = refl
 
 module _ (mine : Bool) (own : Controller) (t : CrewTable) (k : Clock) (l : Listed) where
   abbrev asked : List Bool

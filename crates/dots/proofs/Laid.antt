@@ -10,21 +10,20 @@ use lib.Dec.{eqb, leb}
 use borrow.Author.Tests.{eq-eqb, ne-eqb, le-leb, lt-leb, leb-true, leb-false}
 use Rattle.numbers.specs.Words.{every, concat-map, same-list}
 use Rattle.numbers.proofs.Tests.{by-test}
-use Rattle.numbers.proofs.Lists.{Passed}
+use Rattle.numbers.proofs.Lists.{Passed, failed, last-test}
 use Rattle.numbers.specs.Dot.{dot}
 use Rattle.numbers.specs.Key.{key}
 use Rattle.block.specs.Fields.{le, cut, field, zeros, pad, upto}
 use Rattle.block.specs.Check.{sealed}
 use Rattle.block.proofs.Parts.{length-cut, cut-cut}
-use Rattle.block.proofs.Numbers.{Bytes, le-length, bytes-cut}
+use Rattle.block.proofs.Numbers.{Bytes, le-field, le-length, bytes-cut}
 use Rattle.block.proofs.Arrays.{upto-same, upto-length, take-upto, array-length}
-use Rattle.block.proofs.Same.{same-number, same-zeros, same-block}
+use Rattle.block.proofs.Same.{same-of, same-number, same-zeros, same-cut, same-then, zero-at, zero-then, array-again, same-block}
 use Rattle.meaning.specs.State.{Listed}
 use Rattle.layout.specs.Image.{encode-entry, decode-entry, encode-dots, decode-dots}
 use Rattle.layout.proofs.ImageBack.{entry-length}
 use Rattle.parts.proofs.Lookup.{field-of-cut}
 use Rattle.dots.specs.Entries.{entry}
-use Rattle.dots.proofs.Written.{field-again, array-again, same-cut, same-then, zero-at, zero-then, failed, last-test}
 
 -- ---- the entries
 
@@ -55,7 +54,7 @@ entry-fields b i = λ j.
 entry-again : (l : List ℕ) → length l ≡ 8 → Bytes l → encode-entry (decode-entry l) ≡ l
 unfolding encode-entry decode-entry
 entry-again l e h =
-    ap₂ _++_ (field-again l 0 1 h (omega arith)) (ap₂ _++_ (field-again l 1 1 h (omega arith)) (ap₂ _++_ (field-again l 2 2 h (omega arith)) (field-again l 4 4 h (omega arith))))
+    ap₂ _++_ (le-field l 0 1 h (omega arith)) (ap₂ _++_ (le-field l 1 1 h (omega arith)) (ap₂ _++_ (le-field l 2 2 h (omega arith)) (le-field l 4 4 h (omega arith))))
     ∙ ap (λ (x : List ℕ). cut l 0 1 ++ (cut l 1 1 ++ x)) (joined 2 2 4)
     ∙ ap (λ (x : List ℕ). cut l 0 1 ++ x) (joined 1 1 6)
     ∙ joined 0 1 7
@@ -123,7 +122,7 @@ module _ (b : List ℕ) (h : Bytes b) (e : length b ≡ 512) (position : ℕ) (s
     behind p =
         let whole : 500 ≡ 8 * k + rest = omega arith in
         ap (λ (n : ℕ). same-list (entries ++ zeros rest) (cut b 8 n)) whole
-        ∙ same-then entries (zeros rest) b 8 (8 * k) rest size (length-replicate rest zero) (omega arith) p
+        ∙ same-then entries (zeros rest) b 8 (8 * k) rest size (length-replicate rest zero) (omega arith) true (same-of entries (cut b 8 (8 * k)) p)
         ∙ same-zeros rest (cut b (8 + 8 * k) rest) (length-cut b (8 + 8 * k) rest (omega arith))
 
   -- what is asked of the block, in the code's order

@@ -1,4 +1,3 @@
-pub mod Written
 pub mod Laid
 pub mod Entry
 pub mod Good

@@ -8,7 +8,7 @@ use lib.Dec.{eqb}
 use Rattle.numbers.specs.declared.Controller.{Controller}
 use Rattle.numbers.specs.Words.{every, all?, some?}
 use Rattle.numbers.specs.Numbers.{is-controller, controllers}
-use Rattle.numbers.proofs.Lists.{Passed}
+use Rattle.numbers.proofs.Lists.{Passed, failed, last-test}
 use Rattle.block.specs.Fields.{cut}
 use Rattle.block.proofs.Arrays.{upto-length}
 use Rattle.row.specs.Row.{fits, sound}
@@ -17,7 +17,6 @@ use Rattle.meaning.specs.Clock.{row, every-row}
 use Rattle.meaning.specs.Message.{is-none, clock-formed, ask-formed}
 use Rattle.layout.specs.Clocks.{decode-row, decode-clock}
 use Rattle.layout.specs.Messages.{decode-ask}
-use Rattle.head.proofs.Rounds.{failed, last-test}
 
 -- a job that it shares with itself
 with-itself : (f : ℕ → Bool) (js : List ℕ) → some? (λ j. f j && f j) js ≡ some? f js

@@ -1,5 +1,5 @@
 -- When a greeting is laid out as it should be, part by part. Assumes nothing.
-use Prim.Native.Nat.{ℕ, zero, _+_, _-_, _<_}
+use Prim.Native.Nat.{ℕ, zero, _-_, _<_}
 use mathlib.Core.Path.{_≡_, refl, ap, sym, _∙_}
 use mathlib.Core.Bool.{Bool, true, false, _&&_}
 use mathlib.Core.List.{List, [], _∷_, _++_, append-assoc}
@@ -7,17 +7,15 @@ use native.Mathlib.Omega.{arith}
 use lib.ListN.{length, take, getD, length-append, length-replicate}
 use lib.Dec.{eqb}
 use Rattle.numbers.specs.Words.{every, same-list}
-use Rattle.numbers.proofs.Lists.{Passed}
+use Rattle.numbers.proofs.Lists.{Passed, failed, last-test}
 use Rattle.block.specs.Fields.{le, cut, field, zeros, pad}
 use Rattle.block.specs.Check.{sealed}
 use Rattle.block.proofs.Parts.{length-cut}
-use Rattle.block.proofs.Numbers.{Bytes, le-length, bytes-cut}
-use Rattle.block.proofs.Same.{same-of, same-number, same-zeros, same-block}
+use Rattle.block.proofs.Numbers.{Bytes, le-field, le-length, bytes-cut}
+use Rattle.block.proofs.Same.{same-of, same-number, same-zeros, same-then, zero-at, same-block}
 use Rattle.layout.specs.Clocks.{encode-clock, decode-clock}
 use Rattle.layout.specs.Messages.{encode-greeting, decode-ask}
-use Rattle.head.proofs.Rounds.{failed, last-test}
-use Rattle.head.proofs.Again.{field-again, clock-again}
-use Rattle.head.proofs.Laid.{same-then, zero-at}
+use Rattle.head.proofs.Again.{clock-again}
 
 module _ (b : List ℕ) (e : length b ≡ 512) (h : Bytes b) (kind points : ℕ) (few : points < 65536) where
   abbrev sender : List ℕ
@@ -60,8 +58,8 @@ module _ (b : List ℕ) (e : length b ≡ 512) (h : Bytes b) (kind points : ℕ)
   content-same : same-list (pad 504 content) (cut b 4 504) ≡ (eqb (field b 6 2) points && zero-at b 104 404)
   content-same =
       ap (λ (l : List ℕ). same-list l (cut b 4 504)) padded
-      ∙ same-then sender (addressee ++ (le 2 points ++ (rows ++ zeros 404))) b 4 1 503 (le-length 1 (field b 4 1)) from-5 (omega arith) true (same-of sender (cut b 4 1) (field-again b 4 1 h (omega arith)))
-      ∙ same-then addressee (le 2 points ++ (rows ++ zeros 404)) b 5 1 502 (le-length 1 (field b 5 1)) from-6 (omega arith) true (same-of addressee (cut b 5 1) (field-again b 5 1 h (omega arith)))
+      ∙ same-then sender (addressee ++ (le 2 points ++ (rows ++ zeros 404))) b 4 1 503 (le-length 1 (field b 4 1)) from-5 (omega arith) true (same-of sender (cut b 4 1) (le-field b 4 1 h (omega arith)))
+      ∙ same-then addressee (le 2 points ++ (rows ++ zeros 404)) b 5 1 502 (le-length 1 (field b 5 1)) from-6 (omega arith) true (same-of addressee (cut b 5 1) (le-field b 5 1 h (omega arith)))
       ∙ same-then (le 2 points) (rows ++ zeros 404) b 6 2 500 (le-length 2 points) from-8 (omega arith) (eqb (field b 6 2) points) (same-number b 6 2 points h (omega arith) few)
       ∙ ap (λ (t : Bool). eqb (field b 6 2) points && t)
       (same-then rows (zeros 404) b 8 96 404 rows-long (length-replicate 404 zero) (omega arith) true (same-of rows (cut b 8 96) rows-same)

@@ -1,49 +1,27 @@
 -- Bytes that are read and written back are the same bytes: rows, the clock, the watermark and the table. Assumes nothing.
-use Prim.Native.Nat.{ℕ, zero, suc, _+_, _*_, _-_, _≤_, _<_}
-use mathlib.Core.Path.{_≡_, refl, ap, ap₂, sym, _∙_, subst}
-use mathlib.Core.Bool.{Bool, true}
-use mathlib.Core.List.{List, [], _∷_, _++_, List·Memᴰ, List·Memᴰ·head, List·Memᴰ·tail, List·Memᴰ·not-nil, List·Memᴰ·cases-cons}
-use mathlib.Core.Logic.{⊎-elim}
+use Prim.Native.Nat.{ℕ, zero, suc, _+_, _*_, _≤_}
+use mathlib.Core.Path.{_≡_, refl, ap, ap₂, sym, _∙_}
+use mathlib.Core.List.{List, [], _∷_, _++_, List·Memᴰ·head, List·Memᴰ·tail}
 use native.Mathlib.Omega.{arith}
-use native.Mathlib.Nat.{mod-eq-of-lt, mul-suc, mul-le-mul-left}
+use native.Mathlib.Nat.{mod-eq-of-lt}
 use lib.ListN.{length, take, drop, getD, length-drop, take-append-drop}
 use lib.Seq.{take-all, getD-drop}
-use Rattle.numbers.specs.Words.{every, concat-map, same-list}
-use Rattle.numbers.proofs.Tests.{and-both}
+use Rattle.numbers.specs.Words.{concat-map}
 use Rattle.block.specs.Fields.{le, number, cut, field, upto}
-use Rattle.block.proofs.Parts.{length-cut}
-use Rattle.block.proofs.Numbers.{Bytes, bytes-cut, le-length, le-number}
+use Rattle.block.proofs.Numbers.{Bytes, le-length, le-number, le-field}
 use Rattle.block.proofs.Arrays.{upto-same, array-length}
-use Rattle.block.proofs.Passing.{every-true}
 use Rattle.block.proofs.Halves.{field-byte}
-use Rattle.block.proofs.Same.{same-of, of-same, same-field, same-array}
+use Rattle.block.proofs.Same.{array-again}
 use Rattle.layout.specs.Clocks.{encode-row, decode-row, encode-clock, decode-clock}
 use Rattle.layout.specs.Image.{encode-marks, decode-marks}
 use Rattle.layout.proofs.ImageBack.{row-length}
-
--- a field that is written back
-pub field-again : (b : List ℕ) (o n : ℕ) → Bytes b → o + n ≤ length b → le n (field b o n) ≡ cut b o n
-field-again b o n h l = of-same (le n (field b o n)) (cut b o n) (same-field b o n h l)
-
--- an array that is written back, where each of its parts is
-pub array-again : {A : Type 0} (w : ℕ) (enc : A → List ℕ) (dec : List ℕ → A) (n : ℕ) (b : List ℕ) → Bytes b → length b ≡ w * n
-    → ((l : List ℕ) → length l ≡ w → length (enc (dec l)) ≡ w)
-    → ((l : List ℕ) → length l ≡ w → Bytes l → enc (dec l) ≡ l)
-    → concat-map enc (upto n (λ i. dec (cut b (w * i) w))) ≡ b
-array-again w enc dec n b h e size same =
-    of-same (concat-map enc (upto n (λ i. dec (cut b (w * i) w)))) b
-    (same-array w enc dec n b e size
-    ∙ every-true n (λ i. same-list (enc (dec (cut b (w * i) w))) (cut b (w * i) w))
-    (λ i l.
-    same-of (enc (dec (cut b (w * i) w))) (cut b (w * i) w)
-    (same (cut b (w * i) w) (length-cut b (w * i) w (omega (arith, e, mul-le-mul-left w l, mul-suc w i))) (bytes-cut b (w * i) w h))))
 
 -- ---- the clock
 
 pub row-again : (l : List ℕ) → length l ≡ 12 → Bytes l → encode-row (decode-row l) ≡ l
 unfolding encode-row decode-row
 row-again l e h =
-    ap₂ _++_ (field-again l 0 4 h (omega arith)) (field-again l 4 8 h (omega arith) ∙ take-all 8 (drop 4 l) (omega (arith, length-drop 4 l)))
+    ap₂ _++_ (le-field l 0 4 h (omega arith)) (le-field l 4 8 h (omega arith) ∙ take-all 8 (drop 4 l) (omega (arith, length-drop 4 l)))
     ∙ take-append-drop 4 l
 
 pub clock-again : (l : List ℕ) → length l ≡ 96 → Bytes l → encode-clock (decode-clock l) ≡ l

@@ -9,7 +9,7 @@ use Rattle.numbers.specs.declared.Controller.{Controller}
 use Rattle.numbers.specs.Words.{every}
 use Rattle.numbers.specs.Numbers.{Crew, is-controller}
 use Rattle.numbers.proofs.Tests.{by-test}
-use Rattle.numbers.proofs.Lists.{Passed}
+use Rattle.numbers.proofs.Lists.{Passed, failed, last-test}
 use Rattle.numbers.proofs.Controllers.{crew-is}
 use Rattle.meaning.specs.Clock.{row, every-row}
 use Rattle.meaning.specs.State.{peers}
@@ -18,7 +18,6 @@ use Rattle.layout.specs.Clocks.{decode-clock}
 use Rattle.layout.specs.Image.{decode-marks}
 use Rattle.head.specs.HeadGood.{own-column-known, head-good}
 use Rattle.head.specs.HeadParts.{head-of-parts, row-good, rows-allowed, marks-row-allowed, marks-allowed, own-row-known, own-column}
-use Rattle.head.proofs.Rounds.{failed, last-test}
 
 pub not-crew : (n : Controller) → (Crew n → ⊥) → is-controller n ≡ false
 not-crew n h = by-test (is-controller n) (λ t. absurd (h (crew-is n t))) (λ f. f)

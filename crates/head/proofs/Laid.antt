@@ -1,53 +1,26 @@
 -- When a head is laid out as it should be, part by part. Assumes nothing.
-use Prim.Native.Nat.{ℕ, zero, _+_, _-_, _≤_}
-use mathlib.Core.Path.{_≡_, refl, ap, ap₂, sym, _∙_}
+use Prim.Native.Nat.{ℕ, zero, _+_, _-_}
+use mathlib.Core.Path.{_≡_, refl, ap, sym, _∙_}
 use mathlib.Core.Bool.{Bool, true, false, _&&_}
 use mathlib.Core.List.{List, [], _∷_, _++_, append-assoc}
 use native.Mathlib.Omega.{arith}
-use lib.ListN.{length, take, drop, getD, length-append, length-replicate}
-use lib.Seq.{take-add, drop-drop}
+use lib.ListN.{length, take, getD, length-append, length-replicate}
 use lib.Dec.{eqb}
-use Rattle.numbers.specs.Words.{every, all?, concat-map, same-list}
+use Rattle.numbers.specs.Words.{every, concat-map, same-list}
 use Rattle.numbers.specs.Numbers.{controller}
 use Rattle.block.specs.Fields.{le, cut, field, zeros, pad, upto}
 use Rattle.block.specs.Check.{sealed}
 use Rattle.block.specs.Block.{make-block}
 use Rattle.block.proofs.Parts.{length-cut}
-use Rattle.block.proofs.Numbers.{Bytes, le-length, bytes-of, bytes-cut}
-use Rattle.block.proofs.Same.{same-of, same-parts, same-zeros, same-block}
+use Rattle.block.proofs.Numbers.{Bytes, le-field, le-length, bytes-of, bytes-cut}
+use Rattle.block.proofs.Same.{same-of, same-then, zero-at, zero-then, same-zeros, same-block}
 use Rattle.layout.specs.Clocks.{encode-clock, decode-clock}
 use Rattle.layout.specs.Image.{encode-marks, decode-marks, encode-head, decode-head}
 use mir.Syntax.{w8}
 use mir.Val.{Fits}
-use Rattle.numbers.proofs.Lists.{Passed}
+use Rattle.numbers.proofs.Lists.{Passed, failed, last-test}
 use Rattle.head.specs.HeadParts.{head-of-parts}
-use Rattle.head.proofs.Rounds.{failed, last-test}
-use Rattle.head.proofs.Again.{field-again, clock-again, marks-again, bytes-again, part-bytes}
-
--- two parts one behind the other
-pub same-cut : (x y b : List ℕ) (o m n : ℕ) → length x ≡ m → length y ≡ n → o + (m + n) ≤ length b
-    → same-list (x ++ y) (cut b o (m + n)) ≡ (same-list x (cut b o m) && same-list y (cut b (o + m) n))
-same-cut x y b o m n p q h =
-    ap (same-list (x ++ y)) (take-add m n (drop o b) ∙ ap (λ (l : List ℕ). cut b o m ++ take n l) (drop-drop m o b))
-    ∙ same-parts x y (cut b o m ++ cut b (o + m) n) m p
-    (length-append (cut b o m) (cut b (o + m) n) ∙ omega (arith, length-cut b o m (omega arith), length-cut b (o + m) n (omega arith)))
-    ∙ ap₂ (λ (u v : List ℕ). same-list x u && same-list y v)
-    (lib.Seq.take-at (cut b o m) (cut b (o + m) n) m (length-cut b o m (omega arith)))
-    (lib.Seq.drop-at (cut b o m) (cut b (o + m) n) m (length-cut b o m (omega arith)))
-
-abbrev pub zero-at : List ℕ → ℕ → ℕ → Bool
-zero-at b o n = all? (λ x. eqb x 0) (cut b o n)
-
--- a part that passes a test or not, and what follows
-pub same-then : (x y b : List ℕ) (o m n : ℕ) → length x ≡ m → length y ≡ n → o + (m + n) ≤ length b → (t : Bool) → same-list x (cut b o m) ≡ t
-    → same-list (x ++ y) (cut b o (m + n)) ≡ (t && same-list y (cut b (o + m) n))
-same-then x y b o m n p q h t e = same-cut x y b o m n p q h ∙ ap (λ (u : Bool). u && same-list y (cut b (o + m) n)) e
-
-zero-then : (y b : List ℕ) (o m n : ℕ) → length y ≡ n → o + (m + n) ≤ length b
-    → same-list (zeros m ++ y) (cut b o (m + n)) ≡ (zero-at b o m && same-list y (cut b (o + m) n))
-zero-then y b o m n q h =
-    same-cut (zeros m) y b o m n (length-replicate m zero) q h
-    ∙ ap (λ (t : Bool). t && same-list y (cut b (o + m) n)) (same-zeros m (cut b o m) (length-cut b o m (omega arith)))
+use Rattle.head.proofs.Again.{clock-again, marks-again, bytes-again, part-bytes}
 
 -- the head's content, of parts that are as they stand in the block: what of it can be wrong is its unused bytes
 module _ (b : List ℕ) (e : length b ≡ 512) (own table clock marks : List ℕ)
@@ -133,7 +106,7 @@ pub head-same : (b : List ℕ) → Bytes b → length b ≡ 512 → same-list (e
 unfolding encode-head decode-head
 head-same b h e =
     made-same b e (le 1 (field b 4 1)) (concat-map (le 1) (upto 8 (λ i. field b (8 + i) 1))) (encode-clock (decode-clock (cut b 16 96))) (encode-marks (decode-marks (cut b 112 256)))
-    (field-again b 4 1 h (omega arith))
+    (le-field b 4 1 h (omega arith))
     (ap (concat-map (le 1)) (table-is b e) ∙ bytes-again (cut b 8 8) (bytes-cut b 8 8 h))
     (clock-again (cut b 16 96) (length-cut b 16 96 (omega arith)) (bytes-cut b 16 96 h))
     (marks-again (cut b 112 256) (length-cut b 112 256 (omega arith)) (bytes-cut b 112 256 h))

@@ -9,7 +9,7 @@ use lib.Dec.{leb, eqb}
 use borrow.Author.Tests.{le-leb, eq-eqb, ne-eqb}
 use Rattle.numbers.specs.declared.Controller.{Controller}
 use Rattle.numbers.specs.Numbers.{Crew, last-counter}
-use Rattle.numbers.proofs.Tests.{and-both, or-inl, or-inr}
+use Rattle.numbers.proofs.Tests.{and-both, or-inl, or-inr, and-first, and-second, or-neither}
 use Rattle.block.specs.Fields.{cut, field, upto}
 use Rattle.block.proofs.Arrays.{upto-at}
 use Rattle.meaning.specs.CrewTable.{CrewTable}
@@ -17,7 +17,6 @@ use Rattle.meaning.specs.State.{Watermark, mark}
 use Rattle.layout.specs.Image.{decode-marks}
 use Rattle.parts.proofs.Lookup.{field-of-cut}
 use Rattle.head.specs.HeadParts.{peers-by, mark-allowed}
-use Rattle.head.proofs.Rounds.{and-first, and-second, or-neither}
 
 pub mark-field : (marks : List ℕ) (m n : Controller) → Crew m → Crew n → mark (decode-marks marks) m n ≡ field marks (32 * (m .0 - 1) + 4 * (n .0 - 1)) 4
 unfolding decode-marks

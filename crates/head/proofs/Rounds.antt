@@ -2,17 +2,15 @@
 use Prim.Native.Nat.{ℕ, zero, suc, _+_, _≤_, _<_}
 use mathlib.Core.Path.{_≡_, refl, sym, ap, _∙_}
 use mathlib.Core.Logic.{_⊎_, inl, inr, ⊎-elim}
-use mathlib.Core.Bool.{Bool, true, false, _&&_, _||_}
-use mathlib.Core.List.{List, [], _∷_, _++_}
+use mathlib.Core.Bool.{Bool, true, false}
 use native.Mathlib.Omega.{arith}
-use lib.ListN.{getD}
-use lib.Dec.{ltb, eqb}
-use borrow.Author.Tests.{ltb-true, ltb-false, eq-eqb, ne-eqb}
+use lib.Dec.{ltb}
+use borrow.Author.Tests.{ltb-true, ltb-false}
 use Rattle.numbers.specs.declared.Controller.{Controller}
-use Rattle.numbers.specs.Words.{every, all?, some?}
+use Rattle.numbers.specs.Words.{all?, some?}
 use Rattle.numbers.specs.Numbers.{Crew, controller, controllers}
 use Rattle.numbers.proofs.Tests.{by-test, never, _∈_, here, there}
-use Rattle.numbers.proofs.Lists.{some-in, in-some, all-in, clause, Passed, passed, _and-also_}
+use Rattle.numbers.proofs.Lists.{some-in, in-some, all-in}
 use Rattle.laws.proofs.Facts.{each-controller, every-controller}
 use Rattle.meaning.specs.CrewTable.{jobs}
 
@@ -76,39 +74,3 @@ module _ (f : ℕ → Bool) where
       by-test (some? f jobs)
       (λ e. let q = some-in f jobs e in never (q .2) (p .1 (q .0) (omega (arith, in-number (q .0) (q .1)))))
       (λ e. sym e)
-
--- ---- a list of tests
-
--- one of them fails, and so do all
-pub failed : (bs : List Bool) (i : ℕ) → getD bs i true ≡ false → false ≡ every bs
-failed bs i t = by-test (every bs) (λ e. never (clause bs e i) t) (λ e. sym e)
-
--- tests and their parts
-pub and-second : (a b : Bool) → b ≡ false → (a && b) ≡ false
-and-second true b e = e
-and-second false b e = refl
-
-pub and-first : (a b : Bool) → a ≡ false → (a && b) ≡ false
-and-first true b e = never refl e
-and-first false b e = refl
-
-pub or-neither : (a b : Bool) → a ≡ false → b ≡ false → (a || b) ≡ false
-or-neither true b p q = p
-or-neither false b p q = q
-
-pub and-true : (a b : Bool) → a ≡ true → (a && b) ≡ b
-and-true true b e = refl
-and-true false b e = never e refl
-
--- those before the last pass, and so the last is what all are
-pub last-test : (bs : List Bool) (b : Bool) → Passed bs → b ≡ every (bs ++ (b ∷ []))
-last-test bs true passed = refl
-last-test bs false passed = refl
-last-test bs b (_and-also_ {b = a} {bs = cs} p ps) = last-test cs b ps ∙ sym (and-true a (every (cs ++ (b ∷ []))) p)
-
--- the test of a number that was read as r
-pub read-is : {r f v : ℕ} → r ≡ f → r ≡ v → eqb f v ≡ true
-read-is {r} {f} {v} p q = eq-eqb f v (sym p ∙ q)
-
-pub read-is-not : {r f v : ℕ} → r ≡ f → (r ≡ v → ⊥) → eqb f v ≡ false
-read-is-not {r} {f} {v} p q = ne-eqb f v (λ z. q (p ∙ z))

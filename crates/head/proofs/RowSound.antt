@@ -9,11 +9,10 @@ use lib.Pow.{pow-mono, pow-pos}
 use lib.Dec.{leb, ltb, eqb}
 use borrow.Author.Tests.{lt-ltb, le-leb, eq-eqb, ne-eqb, leb-true, ltb-true, ltb-false}
 use Rattle.numbers.specs.Numbers.{last-counter}
-use Rattle.numbers.proofs.Tests.{by-test, and-both}
+use Rattle.numbers.proofs.Tests.{by-test, and-both, and-first, and-second}
 use Rattle.row.specs.declared.Row.{Row}
 use Rattle.row.specs.Row.{digits, highest, fits, sound}
 use Rattle.head.specs.HeadParts.{row-good}
-use Rattle.head.proofs.Rounds.{and-first, and-second}
 
 -- with enough to look at, a number is below 2 to the number of its digits
 pub digits-above : (k n : ℕ) → n ≤ k → n < 2 ^ digits k n

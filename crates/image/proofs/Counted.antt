@@ -15,7 +15,7 @@ use Rattle.numbers.proofs.Lists.{in-all}
 use Rattle.block.specs.Fields.{field, upto}
 use Rattle.block.specs.Block.{block-at}
 use Rattle.block.proofs.Numbers.{Bytes}
-use Rattle.block.proofs.Arrays.{upto-length}
+use Rattle.block.proofs.Arrays.{upto-length, map-upto}
 use Rattle.block.proofs.Content.{block-length}
 use Rattle.block.proofs.Runs.{block-bytes}
 use Rattle.parts.proofs.Lookup.{field-of-cut}
@@ -91,10 +91,6 @@ count-most (suc m) f = let rest = count-most m (λ i. f (suc i)) in by-test (eqb
 pub stored-few : (img : List ℕ) → stored-count img ≤ most-points
 unfolding stored-count
 stored-few img = count-most most-points (λ i. block-at img (3 + i))
-
-map-upto : {A B : Type 0} (g : A → B) (n : ℕ) (f : ℕ → A) → map g (upto n f) ≡ upto n (λ i. g (f i))
-map-upto g zero f = refl
-map-upto g (suc n) f = λ k. g (f 0) ∷ map-upto g n (λ i. f (suc i)) k
 
 -- the points of an image are its stored blocks, each decoded
 pub points-are : (img : List ℕ) → decode img .points ≡ upto (stored-count img) (λ i. decode-stored form-1 (block-at img (3 + i)))

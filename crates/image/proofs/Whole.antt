@@ -9,7 +9,7 @@ use lib.Dec.{eqb, leb}
 use lib.Seq.{take-all}
 use borrow.Author.Tests.{leb-true, leb-false, eqb-true, eqb-false, ne-eqb}
 use Rattle.numbers.specs.Words.{every, all?, same-list, ascends?}
-use Rattle.numbers.proofs.Lists.{Passed, clause}
+use Rattle.numbers.proofs.Lists.{Passed, clause, failed, last-test}
 use Rattle.numbers.specs.declared.Controller.{Controller}
 use Rattle.numbers.specs.Numbers.{Crew, is-controller}
 use Rattle.numbers.specs.Dot.{same-dot}
@@ -32,7 +32,6 @@ use Rattle.layout.specs.Image.{image-length, encode-head, decode-head, encode-d
 use Rattle.layout.specs.Clocks.{decode-clock}
 use Rattle.head.specs.HeadGood.{bare, own-column-known, head-good}
 use Rattle.head.proofs.Laid.{parts-of-head}
-use Rattle.head.proofs.Rounds.{failed, last-test}
 use Rattle.dots.specs.DotsGood.{in-its-list, dots-good}
 use Rattle.dots.proofs.Laid as lists
 use Rattle.record.specs.RecordGood.{record-good}

@@ -7,7 +7,7 @@ use mathlib.Core.List.{List, [], _∷_, _++_, List·Memᴰ·append-cases, List·
 use native.Mathlib.Omega.{arith}
 use lib.ListN.{length, getD}
 use Rattle.numbers.specs.Words.{if_then_else_, every, cons-if, keep, some?, all?, place, place-all, map, concat-map}
-use Rattle.numbers.proofs.Tests.{by-test, never, and-left, and-right, and-both, and-true, or-cases, or-inl, or-inr, _∈_, here, there}
+use Rattle.numbers.proofs.Tests.{by-test, never, and-left, and-right, and-both, and-passed, or-cases, or-inl, or-inr, _∈_, here, there}
 
 -- membership in an append
 pub in-left : {A : Type 0} (xs ys : List A) {v : A} → v ∈ xs → v ∈ xs ++ ys
@@ -182,4 +182,4 @@ failed bs i t = by-test (every bs) (λ e. never (clause bs e i) t) (λ e. sym e)
 pub last-test : (bs : List Bool) (b : Bool) → Passed bs → b ≡ every (bs ++ (b ∷ []))
 last-test bs true passed = refl
 last-test bs false passed = refl
-last-test bs b (_and-also_ {b = a} {bs = cs} p ps) = last-test cs b ps ∙ sym (and-true a (every (cs ++ (b ∷ []))) p)
+last-test bs b (_and-also_ {b = a} {bs = cs} p ps) = last-test cs b ps ∙ sym (and-passed a (every (cs ++ (b ∷ []))) p)

@@ -7,7 +7,8 @@ use borrow.Author.Tests.{not-true, not-false, le-leb, lt-leb}
 use Rattle.block.proofs.Numbers.{bytes-of}
 use Rattle.numbers.proofs.Lists.{passed, _and-also_}
 use Rattle.block.specs.Fields.{field}
-use Rattle.dots.proofs.Written.{zero-at, read-is, read-is-not}
+use Rattle.numbers.proofs.Tests.{read-is, read-is-not}
+use Rattle.block.proofs.Same.{zero-at}
 use Rattle.dots.proofs.Laid.{not-laid-out, laid-out}
 use borrow.Author.Needs.{needs}
 use Rattle.dots.proofs.dots_laid_out.Statement.{statement}

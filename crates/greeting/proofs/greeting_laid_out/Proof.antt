@@ -4,8 +4,8 @@ use mathlib.Core.Path.{sym, _∙_}
 use native.Mathlib.Omega.{arith}
 use borrow.Author.Tests.{not-true, not-false}
 use Rattle.numbers.proofs.Lists.{passed, _and-also_}
+use Rattle.numbers.proofs.Tests.{read-is, read-is-not}
 use Rattle.block.proofs.Numbers.{bytes-of}
-use Rattle.head.proofs.Rounds.{read-is, read-is-not}
 use Rattle.greeting.proofs.Laid.{not-laid-out, laid-out}
 use borrow.Author.Needs.{needs}
 use Rattle.greeting.proofs.greeting_laid_out.Statement.{statement}

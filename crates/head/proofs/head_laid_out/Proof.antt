@@ -3,7 +3,7 @@ use mathlib.Core.Path.{sym, _∙_}
 use denote.Ref.{now}
 use borrow.Author.Tests.{not-true, not-false}
 use Rattle.numbers.proofs.Lists.{passed, _and-also_}
-use Rattle.head.proofs.Rounds.{read-is, read-is-not}
+use Rattle.numbers.proofs.Tests.{read-is, read-is-not}
 use Rattle.head.proofs.Laid.{not-laid-out, laid-out}
 use borrow.Author.Needs.{needs}
 use Rattle.head.proofs.head_laid_out.Statement.{statement}

@@ -5,10 +5,10 @@ use native.Mathlib.Omega.{arith}
 use borrow.Author.Tests.{not-true, not-false}
 use Rattle.numbers.proofs.Controllers.{is-crew}
 use Rattle.numbers.proofs.Lists.{passed, _and-also_}
+use Rattle.numbers.proofs.Tests.{read-is, read-is-not}
 use Rattle.row.specs.declared.Row.{Row}
 use Rattle.layout.specs.Image.{decode-marks}
 use Rattle.head.specs.HeadParts.{own-column}
-use Rattle.head.proofs.Rounds.{read-is, read-is-not}
 use Rattle.head.proofs.Clauses.{not-crew, not-good, good}
 use borrow.Author.Needs.{needs}
 use Rattle.head.proofs.parts_good.Statement.{statement}

@@ -7,12 +7,11 @@ use borrow.Author.Tests.{not-true, not-false}
 use Rattle.numbers.specs.Numbers.{controller}
 use Rattle.head.proofs.Rounds.{Passed-to, none-yet, one-more, all-done, one-fails}
 use mathlib.Core.Logic.{⊎-elim}
-use Rattle.numbers.proofs.Tests.{or-inl, or-inr}
+use Rattle.numbers.proofs.Tests.{or-inl, or-inr, or-neither}
 use Rattle.meaning.specs.Clock.{row}
 use Rattle.meaning.specs.Message.{is-none}
 use Rattle.layout.specs.Clocks.{decode-clock}
 use Rattle.head.specs.HeadParts.{peers-by, row-allowed, rows-allowed}
-use Rattle.head.proofs.Rounds.{or-neither}
 use Rattle.head.proofs.rows_allowed.Statement.{statement}
 use Rattle.head.proofs.rows_allowed.Tie as tie
 

@@ -7,9 +7,9 @@ use mathlib.Core.Logic.{⊎-elim}
 use denote.Ref.{now}
 use native.Mathlib.Omega.{arith}
 use borrow.Author.Count.{below-more}
-use Rattle.numbers.proofs.Tests.{and-both}
+use Rattle.numbers.proofs.Tests.{and-both, and-first, and-second}
 use Rattle.meaning.specs.CrewTable.{holds, share-job}
-use Rattle.head.proofs.Rounds.{None-to, some-job, no-job, and-first, and-second}
+use Rattle.head.proofs.Rounds.{None-to, some-job, no-job}
 use Rattle.head.proofs.shares_job.Statement.{statement}
 use Rattle.head.proofs.shares_job.Tie as tie
 
