@@ -11,7 +11,7 @@ use Rattle.numbers.proofs.Lists.{in-some}
 use Rattle.refusal.specs.declared.Verdict.{Verdict}
 use Rattle.refusal.specs.declared.Verdict.the-variants.{Accepted, Refused}
 use Rattle.refusal.specs.declared.Refusal.{Refusal}
-use Rattle.refusal.specs.declared.Refusal.the-variants.{RowTooFar, TooManyVersions, TooManyPoints}
+use Rattle.refusal.specs.declared.Refusal.the-variants.{WrongCheck, IllFormed, OutOfRange, NotPeer, HistoryLost, DotClash, RowTooFar, TooManyVersions, TooManyPoints}
 use Rattle.refusal.specs.Refusal.{Answer, refused, accepted, refuse_when_else_, _>>=_, verdict-of}
 use Rattle.row.specs.Row.{fits}
 use Rattle.meaning.specs.Clock.{Clock, every-row}
@@ -75,6 +75,22 @@ accepted-with (refused q) e = absurd (never {b = is-accepted (Refused q)} (ap is
 pub by-none : {A : Type 0} (x : Answer A) (a : Answer Bool) → verdict-of a ≡ Accepted → then a x ≡ x
 unfolding then
 by-none x a e = ap (λ (b : Answer Bool). b >>= λ y. x) (accepted-with a e .1)
+
+-- the rows 3 to 10 of the table, before whatever is made of x: they judge, and then it is made
+pub message-rows : {A B : Type 0} (c l f h p a d : Bool) (x : Answer A) (g : A → Answer B)
+    → (refuse WrongCheck when not c else refuse IllFormed when not l else
+    ((refuse IllFormed when not f else refuse OutOfRange when not h else refuse NotPeer when not p else refuse HistoryLost when a else refuse DotClash when d else x) >>= g))
+    ≡ then (refuse WrongCheck when not c else refuse IllFormed when not l else
+    refuse IllFormed when not f else refuse OutOfRange when not h else refuse NotPeer when not p else refuse HistoryLost when a else refuse DotClash when d else accepted true) (x >>= g)
+unfolding refuse_when_else_ then
+message-rows false l f h p a d x g = refl
+message-rows true false f h p a d x g = refl
+message-rows true true false h p a d x g = refl
+message-rows true true true false p a d x g = refl
+message-rows true true true true false a d x g = refl
+message-rows true true true true true true d x g = refl
+message-rows true true true true true false true x g = refl
+message-rows true true true true true false false x g = refl
 
 -- what an accepted settle has tested, and what it gives
 pub settle-accepted : (s : State) (k : Clock) (rs : List Stored) {x : State} → settle s k rs ≡ accepted x → Limits s k rs × (settled s k rs ≡ x)

@@ -1,6 +1,7 @@
 pub mod ContextLaws
 pub mod MergeLaws
 pub mod Facts
+pub mod Formed
 pub mod Goodness
 pub mod Entering
 pub mod Putting

@@ -1,10 +1,10 @@
 -- The states that storing does not make: a fresh one, one after a strip pass, and one whose watermark and lists a repair has tidied.
 -- Each is good. Assumes nothing.
-use Prim.Native.Nat.{ℕ, _-_, _≤_, _<_, max}
+use Prim.Native.Nat.{ℕ, _-_, _≤_, max}
 use mathlib.Core.Path.{_≡_, refl, sym, ap, _∙_, subst}
-use mathlib.Core.Logic.{_⊎_, inl, inr, ⊎-elim, ⊎-map}
-use mathlib.Core.Bool.{Bool, true, false, _&&_, _||_, not}
-use mathlib.Core.List.{List, [], _∷_, _++_, List·Memᴰ·not-nil, List·Memᴰ·append-cases}
+use mathlib.Core.Logic.{⊎-elim}
+use mathlib.Core.Bool.{Bool, true, false, _&&_, not}
+use mathlib.Core.List.{List, [], _++_, List·Memᴰ·not-nil, List·Memᴰ·append-cases}
 use native.Mathlib.Omega.{arith}
 use native.Mathlib.Nat.{le-trans}
 use lib.ListN.{length, getD}
@@ -14,19 +14,19 @@ use Rattle.numbers.specs.Numbers.{last-counter, is-controller, same-controller,
 use Rattle.numbers.proofs.Tests.{by-test, never, and-left, and-right, and-both, or-inl, _∈_}
 use Rattle.numbers.proofs.Lists.{in-left, in-right, in-keep}
 use Rattle.numbers.proofs.Controllers.{Crew, crew-is, at-each, same-controllers, controller-itself}
-use Rattle.numbers.proofs.Orders.{Ascends, keep-ascends, keep-length, no-longer}
+use Rattle.numbers.proofs.Orders.{keep-ascends, keep-length, no-longer}
 use Rattle.numbers.proofs.Dots.{keys-tied}
 use Rattle.refusal.specs.declared.Refusal.the-variants.{OutOfRange}
-use Rattle.refusal.specs.Refusal.{Answer, accepted}
+use Rattle.refusal.specs.Refusal.{accepted}
 use Rattle.row.specs.declared.Row.{Row}
 use Rattle.row.specs.Row.{none-seen, digits, highest, fits, sound}
 use Rattle.row.proofs.Highest.{sound-base}
 use Rattle.meaning.specs.CrewTable.{CrewTable, is-table, share-job}
-use Rattle.meaning.specs.Clock.{Clock, row}
+use Rattle.meaning.specs.Clock.{row}
 use Rattle.meaning.specs.Object.{Version, strip, gone}
-use Rattle.meaning.specs.State.{Stored, stored-before, Listed, listed-before, Watermark, mark, State, peers, own-base, listed}
+use Rattle.meaning.specs.State.{Stored, stored-before, Listed, listed-before, mark, State, peers, own-base, listed}
 use Rattle.meaning.specs.Message.{Reply}
-use Rattle.meaning.specs.Settle.{most-points, stripped, put}
+use Rattle.meaning.specs.Settle.{stripped, put}
 use Rattle.meaning.specs.OwnSteps.{fresh, start, strip-pass}
 use Rattle.meaning.specs.Exchange.{raised, known-to-all, tidied}
 use Rattle.laws.proofs.Goodness.{RecordFacts, Good}
@@ -159,6 +159,17 @@ module _ (s : State) (G : Good s) where
 
 -- ---- the watermark raised and the lists tidied
 
+module _ (s : State) (r : Reply) where
+  abbrev pub raise : Controller → Controller → ℕ
+  raise m n =
+      if same-controller m (r .sender) && peers s (s .own) n then max (mark (s .watermark) m n) (row (r .clock) n .base)
+      else (if same-controller m (s .own) then max (mark (s .watermark) m n) (row (s .clock) n .base)
+      else mark (s .watermark) m n)
+
+  pub raised-mark : (m n : Controller) → Crew m → Crew n → mark (raised s r) m n ≡ raise m n
+  unfolding raised
+  raised-mark m n x y = mark-each raise m n x y
+
 module _ (s : State) (r : Reply) (G : Good s) (other : same-controller (r .sender) (s .own) ≡ false) (peer : peers s (s .own) (r .sender) ≡ true)
     (rows : (n : Controller) → Crew n → row (r .clock) n .base ≤ last-counter) (about-us : row (r .clock) (s .own) .base ≤ own-base s) where
   -- an entry is raised to the sender's base, to ours, or stays
@@ -167,18 +178,8 @@ module _ (s : State) (r : Reply) (G : Good s) (other : same-controller (r .sende
     ours : m ≡ s .own → x ≡ max (mark (s .watermark) m n) (row (s .clock) n .base) → Raised m n x
     as-it-was : same-controller m (s .own) ≡ false → x ≡ mark (s .watermark) m n → Raised m n x
 
-  abbrev raise : Controller → Controller → ℕ
-  raise m n =
-      if same-controller m (r .sender) && peers s (s .own) n then max (mark (s .watermark) m n) (row (r .clock) n .base)
-      else (if same-controller m (s .own) then max (mark (s .watermark) m n) (row (s .clock) n .base)
-      else mark (s .watermark) m n)
-
-  raised-mark : (m n : Controller) → Crew m → Crew n → mark (raised s r) m n ≡ raise m n
-  unfolding raised
-  raised-mark m n x y = mark-each raise m n x y
-
   raised-is : (m n : Controller) → Crew m → Crew n → Raised m n (mark (raised s r) m n)
-  raised-is m n x y = rw (raised-mark m n x y)
+  raised-is m n x y = rw (raised-mark s r m n x y)
       (by-test (same-controller m (r .sender) && peers s (s .own) n)
       (λ t. rw t (theirs (same-controllers m (r .sender) (and-left (same-controller m (r .sender)) (peers s (s .own) n) t)) (and-right (same-controller m (r .sender)) (peers s (s .own) n) t) refl))
       (λ t. by-test (same-controller m (s .own)) (λ u. rw (t, u) (ours (same-controllers m (s .own) u) refl)) (λ u. rw (t, u) (as-it-was u refl))))

@@ -1,43 +1,42 @@
 -- "Every accepted step leaves a good image", on states: whatever message is taken in, also a made-up one. Assumes nothing.
-use Prim.Native.Nat.{ℕ, _+_, _≤_, _<_}
+use Prim.Native.Nat.{ℕ, _≤_, _<_}
 use mathlib.Core.Path.{_≡_, refl, sym, ap, _∙_, subst}
-use mathlib.Core.Logic.{_⊎_, inl, inr, ⊎-elim, ⊎-map}
-use mathlib.Core.Bool.{Bool, true, false, _&&_, _||_, not}
+use mathlib.Core.Logic.{inl}
+use mathlib.Core.Bool.{true, false, _&&_, _||_, not}
 use mathlib.Core.List.{List, [], _∷_, List·Memᴰ·eq-of-singleton}
 use native.Mathlib.Omega.{arith}
 use native.Mathlib.Nat.{le-trans}
 use lib.ListN.{length}
-use lib.Dec.{leb, ltb, eqb}
+use lib.Dec.{leb, ltb}
 use borrow.Author.Tests.{leb-false, ltb-false, le-leb, lt-ltb, not-true}
 use Rattle.numbers.specs.declared.Controller.{Controller}
-use Rattle.numbers.specs.declared.Counter.{Counter}
-use Rattle.numbers.specs.declared.Dot.{Dot}
 use Rattle.numbers.specs.declared.Key.{Key}
-use Rattle.numbers.specs.Words.{if_then_else_, every, some?, all?, ascends?, map}
-use Rattle.numbers.specs.Numbers.{last-counter, is-controller, same-controller, controllers, each}
+use Rattle.numbers.specs.Words.{every, some?, all?, map}
+use Rattle.numbers.specs.Numbers.{last-counter, same-controller}
 use Rattle.numbers.specs.Key.{is-key}
-use Rattle.numbers.proofs.Tests.{by-test, never, and-left, and-right, and-both, and-false, or-false, _∈_, here}
-use Rattle.numbers.proofs.Lists.{none-in, all-in, in-all, in-map, clause}
-use Rattle.numbers.proofs.Controllers.{Crew, crew-is, same-controllers, controller-itself}
+use Rattle.numbers.proofs.Tests.{by-test, never, and-left, and-right, and-both, and-false, or-false, _∈_}
+use Rattle.numbers.proofs.Lists.{none-in, all-in, in-all}
+use Rattle.numbers.proofs.Controllers.{Crew, same-controllers, controller-itself}
 use Rattle.refusal.specs.declared.Refusal.the-variants.{IllFormed, OutOfRange, NotPeer, ValueTooLong, ContextAhead, HistoryLost, DotClash, OwnListFull, CountersUsedUp}
-use Rattle.refusal.specs.Refusal.{Answer, refused, accepted, refuse_when_else_, _>>=_}
+use Rattle.refusal.specs.Refusal.{accepted}
 use Rattle.row.specs.declared.Row.{Row}
-use Rattle.row.specs.Row.{none-seen, highest, fits, sound, unite}
+use Rattle.row.specs.Row.{highest, sound, unite}
 use Rattle.row.proofs.Uniting.{unite-has, unite-base}
 use Rattle.row.proofs.Highest.{base-highest, sound-base, unite-sound}
-use Rattle.meaning.specs.CrewTable.{CrewTable, is-table, holds, in-some-job}
-use Rattle.meaning.specs.Clock.{Clock, row, every-row, in-clock, with-row}
-use Rattle.meaning.specs.Context.{Context, entry, covers, fill-context}
+use Rattle.meaning.specs.CrewTable.{CrewTable, is-table, holds}
+use Rattle.meaning.specs.Clock.{Clock, row, in-clock, with-row}
+use Rattle.meaning.specs.Context.{Context, entry, fill-context}
 use Rattle.meaning.specs.Object.{Contents, value, deleted, Version, Object, fill, merge}
-use Rattle.meaning.specs.State.{Stored, stored-before, State, peers, own-base, dots-of, local}
-use Rattle.meaning.specs.Message.{Outgoing, Ask, Reply, longest-value, contents-formed, point-formed, covers-all, is-none, clock-formed, dots-agree, outgoing-formed, reply-formed}
-use Rattle.meaning.specs.Settle.{most-listed, entered, settled, settle}
+use Rattle.meaning.specs.State.{Stored, State, peers, own-base, dots-of, local}
+use Rattle.meaning.specs.Message.{Outgoing, Reply, longest-value, contents-formed, point-formed, covers-all, outgoing-formed, reply-formed}
+use Rattle.meaning.specs.Settle.{most-listed, settled, settle}
 use Rattle.meaning.specs.OwnSteps.{start, ours, read, written, context-ahead, Done, put-down, write, delete, strip-pass}
-use Rattle.meaning.specs.Exchange.{both-hold, other-peer, ahead-of-us, row-ahead-of-us, clashes, take-in, ask, Replied, reply, tidied, mended, repair}
+use Rattle.meaning.specs.Exchange.{both-hold, other-peer, ahead-of-us, row-ahead-of-us, clashes, take-in, ask, reply, tidied, mended, repair}
 use Rattle.meaning.specs.Step.{Step, reads, writes, deletes, takes-in, asks, replies, repairs, strips, step}
 use Rattle.meaning.specs.Good.{goodState}
 use Rattle.laws.proofs.ContextLaws.{fill-holder}
-use Rattle.laws.proofs.Facts.{PointFacts, point-facts, covers-each, row-at, dots-in, agree-at}
+use Rattle.laws.proofs.Facts.{point-facts, covers-each, dots-in, agree-at}
+use Rattle.laws.proofs.Formed.{FormedReply, formed-outgoing, formed-reply}
 use Rattle.laws.proofs.Goodness.{Good, good-facts, facts-good}
 use Rattle.laws.proofs.Entering.{united-row, entered-base}
 use Rattle.laws.proofs.Settling.{Results, Limits, settled-good}
@@ -49,9 +48,9 @@ use Rattle.laws.proofs.OtherSteps.{start-good, strip-pass-good, tidied-
 
 -- ---- write and delete
 
-held-here : (s : State) (k : Key) → ours s k ≡ true → (is-key k ≡ true) × (holds (s .table) (s .own) (k .job) ≡ true)
+pub ours-is : (s : State) (k : Key) → ours s k ≡ true → (is-key k ≡ true) × (holds (s .table) (s .own) (k .job) ≡ true)
 unfolding ours
-held-here s k t = (and-left (is-key k) (holds (s .table) (s .own) (k .job)) t, and-right (is-key k) (holds (s .table) (s .own) (k .job)) t)
+ours-is s k t = (and-left (is-key k) (holds (s .table) (s .own) (k .job)) t, and-right (is-key k) (holds (s .table) (s .own) (k .job)) t)
 
 -- what an accepted write or delete has tested, and what it gives
 pub record PutDown (s : State) (k : Key) (b : Contents) (c : Context) (d : Done) : Type 0 where
@@ -63,7 +62,7 @@ pub record PutDown (s : State) (k : Key) (b : Contents) (c : Context) (d : Done)
 pub put-down-accepted : (s : State) (k : Key) (b : Contents) (c : Context) (d : Done) → Good s → ours s k ≡ true → contents-formed b ≡ true → put-down s k b c ≡ accepted d → PutDown s k b c d
 unfolding put-down
 put-down-accepted s k b c d G t said e =
-    let held = held-here s k t in
+    let held = ours-is s k t in
     let first = passes ContextAhead (context-ahead s k c) _ e in
     let kept = bound (settle s (s .clock) (record { key = k; object = written s k b c } ∷ [])) _ (first .1) in
     let room = passes OwnListFull (leb most-listed (length (s .own-dots))) _ (kept .2) in
@@ -104,7 +103,7 @@ delete-accepted s k c d G e =
 -- ---- take in
 
 -- refusal 9 passed, of an object
-not-ahead : (s : State) (o : Object) → ahead-of-us s o ≡ false
+pub not-ahead : (s : State) (o : Object) → ahead-of-us s o ≡ false
     → ((v : Version) → v ∈ o .versions → v .dot .who ≡ s .own → v .dot .count .0 ≤ own-base s) × (entry (o .context) (s .own) .0 ≤ own-base s)
 unfolding ahead-of-us
 not-ahead s o t =
@@ -131,40 +130,60 @@ same-clock s G = record {
   of-peers = G .rows-peers;
 }
 
-take-in-good : (s : State) (m : Outgoing) (x : State) → Good s → take-in s m ≡ accepted x → Good x
+-- a point that passed the refusals 4 to 10
+pub point-carried : (s : State) (k : Key) (o : Object) → point-formed (s .table) k o ≡ true → covers-all (o .context) (o .versions) ≡ true → holds (s .table) (s .own) (k .job) ≡ true
+    → ahead-of-us s o ≡ false → some? (clashes s k) (o .versions) ≡ false → Carried s k o
+point-carried s k o formed covered held ahead clash =
+    let P = point-facts (s .table) k o formed in
+    let A = not-ahead s o ahead in
+    record {
+      key-good = P .key-good;
+      held = held;
+      object = record { versions = P .versions; context = P .context; covered = covers-each (o .context) (o .versions) covered; own-entry = A .1 };
+      own-dots = A .0;
+      free = λ v h. none-in (clashes s k) (o .versions) clash h;
+    }
+
+pub outgoing-carried : (s : State) (m : Outgoing) → outgoing-formed (s .table) m ≡ true → both-hold s (m .sender) (m .key) ≡ true → ahead-of-us s (m .object) ≡ false
+    → some? (clashes s (m .key)) (m .object .versions) ≡ false → Carried s (m .key) (m .object)
+outgoing-carried s m formed held ahead clash =
+    let F = formed-outgoing (s .table) m formed in
+    point-carried s (m .key) (m .object) (F .point) (F .covered) (both-held s (m .sender) (m .key) held .0) ahead clash
+
+-- what an accepted take in has tested, and what it gives
+pub record TakenIn (s : State) (m : Outgoing) (x : State) : Type 0 where
+  pub formed : outgoing-formed (s .table) m ≡ true
+  pub held : holds (s .table) (s .own) (m .key .job) ≡ true
+  pub carried : Carried s (m .key) (m .object)
+  pub limits : Limits s (s .clock) (record { key = m .key; object = merge (local s (m .key)) (m .object) } ∷ [])
+  pub state : settled s (s .clock) (record { key = m .key; object = merge (local s (m .key)) (m .object) } ∷ []) ≡ x
+
+pub taken-in : (s : State) (m : Outgoing) (x : State) → take-in s m ≡ accepted x → TakenIn s m x
 unfolding take-in
-take-in-good s m x G e =
+taken-in s m x e =
     let formed = passes-not IllFormed (outgoing-formed (s .table) m) _ e in
     let held = passes-not OutOfRange (both-hold s (m .sender) (m .key)) _ (formed .1) in
     let peer = passes-not NotPeer (other-peer s (m .sender)) _ (held .1) in
     let ahead = passes HistoryLost (ahead-of-us s (m .object)) _ (peer .1) in
     let clash = passes DotClash (some? (clashes s (m .key)) (m .object .versions)) _ (ahead .1) in
     let after = settle-accepted s (s .clock) (record { key = m .key; object = merge (local s (m .key)) (m .object) } ∷ []) (clash .1) in
-    let carried = carry (formed .0) (held .0) (ahead .0) (clash .0) in
-    subst (λ (y : State). Good y) (after .1)
-    (settled-good s (s .clock) _ G
-    (merged-fit s G (s .clock) (same-clock s G) (item ∷ []) (λ p. p .object)
-    (λ p h. subst (λ (y : Stored). Carried s (y .key) (y .object)) (sym (List·Memᴰ·eq-of-singleton h)) carried)
-    (λ p q v w mp mq mv mw d. ap (λ (y : Stored). y .key) (List·Memᴰ·eq-of-singleton mp ∙ sym (List·Memᴰ·eq-of-singleton mq))))
-    (after .0))
-  where
-    item : Stored
-    item = record { key = m .key; object = m .object }
+    record {
+      formed = formed .0;
+      held = both-held s (m .sender) (m .key) (held .0) .0;
+      carried = outgoing-carried s m (formed .0) (held .0) (ahead .0) (clash .0);
+      limits = after .0;
+      state = after .1;
+    }
 
-    carry : outgoing-formed (s .table) m ≡ true → both-hold s (m .sender) (m .key) ≡ true → ahead-of-us s (m .object) ≡ false
-        → some? (clashes s (m .key)) (m .object .versions) ≡ false → Carried s (m .key) (m .object)
-    carry formed held ahead clash =
-        let bs = is-controller (m .sender) ∷ point-formed (s .table) (m .key) (m .object) ∷ covers-all (m .object .context) (m .object .versions) ∷ [] in
-        let t : every bs ≡ true = unfold outgoing-formed in formed in
-        let P = point-facts (s .table) (m .key) (m .object) (clause bs t 1) in
-        let A = not-ahead s (m .object) ahead in
-        record {
-          key-good = P .key-good;
-          held = both-held s (m .sender) (m .key) held .0;
-          object = record { versions = P .versions; context = P .context; covered = covers-each (m .object .context) (m .object .versions) (clause bs t 2); own-entry = A .1 };
-          own-dots = A .0;
-          free = λ v h. none-in (clashes s (m .key)) (m .object .versions) clash h;
-        }
+take-in-good : (s : State) (m : Outgoing) (x : State) → Good s → take-in s m ≡ accepted x → Good x
+take-in-good s m x G e =
+    let A = taken-in s m x e in
+    subst (λ (y : State). Good y) (A .state)
+    (settled-good s (s .clock) _ G
+    (merged-fit s G (s .clock) (same-clock s G) (record { key = m .key; object = m .object } ∷ []) (λ p. p .object)
+    (λ p h. subst (λ (y : Stored). Carried s (y .key) (y .object)) (sym (List·Memᴰ·eq-of-singleton h)) (A .carried))
+    (λ p q v w mp mq mv mw d. ap (λ (y : Stored). y .key) (List·Memᴰ·eq-of-singleton mp ∙ sym (List·Memᴰ·eq-of-singleton mq))))
+    (A .limits))
 
 -- ---- repair
 
@@ -173,19 +192,8 @@ module _ (s : State) (r : Reply) (G : Good s) (formed : reply-formed (s .table) 
     (peer : (other-peer s (r .sender) && same-controller (r .addressee) (s .own)) ≡ true)
     (ahead : (some? (λ p. ahead-of-us s (p .object)) (r .points) || row-ahead-of-us s (r .clock)) ≡ false)
     (clash : some? (λ p. some? (clashes s (p .key)) (p .object .versions)) (r .points) ≡ false) where
-  abbrev tests : List Bool
-  tests =
-      is-controller (r .sender) ∷ is-controller (r .addressee) ∷ clock-formed (s .table) (r .sender) (r .clock)
-      ∷ all? (λ p. point-formed (s .table) (p .key) (p .object)) (r .points)
-      ∷ all? (λ p. covers-all (fill-context (s .table) (p .key .job) (r .clock) (p .object .context)) (p .object .versions)) (r .points)
-      ∷ ascends? stored-before (r .points) ∷ dots-agree (dots-of (r .points)) (dots-of (r .points)) ∷ []
-
-  test : (i : ℕ) → lib.ListN.getD tests i true ≡ true
-  unfolding reply-formed
-  test i = clause tests formed i
-
-  pub sender-crew : Crew (r .sender)
-  sender-crew = crew-is (r .sender) (test 0)
+  F : FormedReply (s .table) r
+  F = formed-reply (s .table) r formed
 
   -- the sender is another peer
   pub other : same-controller (r .sender) (s .own) ≡ false
@@ -200,17 +208,10 @@ module _ (s : State) (r : Reply) (G : Good s) (formed : reply-formed (s .table) 
       and-right (not (same-controller (r .sender) (s .own))) (peers s (s .own) (r .sender))
       (and-left (not (same-controller (r .sender) (s .own)) && peers s (s .own) (r .sender)) (same-controller (r .addressee) (s .own)) peer)
 
-  -- its rows are sound, and that about us is no further than we are
-  row-sound : (n : Controller) → Crew n → sound (row (r .clock) n) ≡ true
-  unfolding clock-formed
-  row-sound n c =
-      and-right (fits (row (r .clock) n)) (sound (row (r .clock) n))
-      (row-at (λ x. fits x && sound x) (r .clock)
-      (clause (eqb (length (r .clock)) 8 ∷ every-row (λ x. fits x && sound x) (r .clock) ∷ all? (λ m. in-some-job (s .table) m || is-none (row (r .clock) m)) controllers ∷ eqb (row (r .clock) (r .sender) .bits) 0 ∷ []) (test 2) 1) n c)
-
   row-low : (n : Controller) → Crew n → row (r .clock) n .base ≤ last-counter
-  row-low n c = sound-base (row (r .clock) n) (row-sound n c)
+  row-low n c = sound-base (row (r .clock) n) (F .clock .row-sound n c)
 
+  -- its row about us is no further than we are
   about-us : row (r .clock) (s .own) .base ≤ own-base s
   unfolding row-ahead-of-us
   about-us =
@@ -232,7 +233,7 @@ module _ (s : State) (r : Reply) (G : Good s) (formed : reply-formed (s .table) 
   pub united-clock : Clocked s (with-row (s .clock) (r .sender) (row (r .clock) (r .sender)))
   united-clock = record {
     eight = unfold with-row in refl;
-    rows = λ n c. united-is n c (λ x. sound x ≡ true) (unite-sound (row (s .clock) n) (row (r .clock) (r .sender)) (G .row-sound n c .1) (row-sound (r .sender) sender-crew)) (G .row-sound n c .1);
+    rows = λ n c. united-is n c (λ x. sound x ≡ true) (unite-sound (row (s .clock) n) (row (r .clock) (r .sender)) (G .row-sound n c .1) (F .clock .row-sound (r .sender) (F .sender))) (G .row-sound n c .1);
     rising = λ n c. united-is n c (λ x. row (s .clock) n .base ≤ x .base) (unite-base (row (s .clock) n) (row (r .clock) (r .sender))) (omega arith);
     growing = λ d c h. unfold in-clock in
         (united-is (d .who) c (λ x. Rattle.row.specs.Row.has x (d .count) ≡ true) (unite-has (row (s .clock) (d .who)) (row (r .clock) (r .sender)) (d .count) .1 (inl (unfold in-clock in h))) (unfold in-clock in h));
@@ -246,7 +247,7 @@ module _ (s : State) (r : Reply) (G : Good s) (formed : reply-formed (s .table) 
 
   pub carried : (p : Stored) → p ∈ r .points → Carried s (p .key) (fill (s .table) (p .key .job) (r .clock) (p .object))
   carried p m =
-      let P = point-facts (s .table) (p .key) (p .object) (all-in (λ q. point-formed (s .table) (q .key) (q .object)) (r .points) (test 3) m) in
+      let P = point-facts (s .table) (p .key) (p .object) (F .point p m) in
       let A = not-ahead s (p .object) (none-in (λ q. ahead-of-us s (q .object)) (r .points) (or-false (some? (λ q. ahead-of-us s (q .object)) (r .points)) (row-ahead-of-us s (r .clock)) ahead .0) m) in
       let here-held = both-held s (r .sender) (p .key) (all-in (λ q. both-hold s (r .sender) (q .key)) (r .points) held m) .0 in
       unfold fill in (record {
@@ -255,8 +256,7 @@ module _ (s : State) (r : Reply) (G : Good s) (formed : reply-formed (s .table) 
         object = record {
           versions = P .versions;
           context = fill-context-facts (s .table) (p .key .job) (r .clock) (p .object .context) row-low (P .context);
-          covered = covers-each (fill-context (s .table) (p .key .job) (r .clock) (p .object .context)) (p .object .versions)
-              (all-in (λ q. covers-all (fill-context (s .table) (q .key .job) (r .clock) (q .object .context)) (q .object .versions)) (r .points) (test 4) m);
+          covered = covers-each (fill-context (s .table) (p .key .job) (r .clock) (p .object .context)) (p .object .versions) (F .covered p m);
           own-entry = omega (arith, fill-holder (s .table) (p .key .job) (r .clock) (p .object .context) (s .own) (G .own-crew) here-held, A .1, about-us);
         };
         own-dots = A .0;
@@ -265,7 +265,7 @@ module _ (s : State) (r : Reply) (G : Good s) (formed : reply-formed (s .table) 
 
   pub agree : (p q : Stored) (v w : Version) → p ∈ r .points → q ∈ r .points → v ∈ p .object .versions → w ∈ q .object .versions → v .dot ≡ w .dot → p .key ≡ q .key
   agree p q v w mp mq mv mw e =
-      agree-at (dots-of (r .points)) (dots-of (r .points)) (test 6) (record { dot = v .dot; key = p .key }) (record { dot = w .dot; key = q .key }) (dots-in (r .points) mp mv) (dots-in (r .points) mq mw) e
+      agree-at (dots-of (r .points)) (dots-of (r .points)) (F .agree) (record { dot = v .dot; key = p .key }) (record { dot = w .dot; key = q .key }) (dots-in (r .points) mp mv) (dots-in (r .points) mq mw) e
 
   -- what is stored is good before the watermark is raised
   pub stored-good : Limits s (with-row (s .clock) (r .sender) (row (r .clock) (r .sender))) (map (mended s r) (r .points)) → Good (settled s (with-row (s .clock) (r .sender) (row (r .clock) (r .sender))) (map (mended s r) (r .points)))
