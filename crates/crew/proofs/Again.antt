@@ -1,6 +1,6 @@
 -- What follows from demand 3: what was once seen deleted is never shown again, and what brings nothing new shows nothing new. Assumes nothing.
 use mathlib.Core.Path.{_≡_, refl, sym, ap, _∙_, subst}
-use mathlib.Core.Logic.{_⊎_, ⊎-elim}
+use mathlib.Core.Logic.{⊎-elim}
 use mathlib.Core.Bool.{true, false}
 use mathlib.Core.List.{List, [], _∷_, _++_, List·Memᴰ·append-cases, Memᴰ·cast}
 use Rattle.numbers.specs.declared.Controller.{Controller}
@@ -18,13 +18,14 @@ use Rattle.meaning.specs.OwnSteps.{ours, shown, read, Done}
 use Rattle.meaning.specs.Write.{Write, covers-write}
 use Rattle.laws.proofs.MergeLaws.{version-order, has-dot-of}
 use Rattle.laws.proofs.Answers.{same-accepted, passes-not}
+use Rattle.laws.proofs.StaysGood.{ours-is}
 use Rattle.crew.specs.Moment.{Sent, Moment, starting, seeing, made, writing, asking, replying}
 use Rattle.crew.specs.Run as run
 use Rattle.crew.specs.Run.{Next, Later, Reached, now, _then_}
 use Rattle.crew.specs.Demand.{due, NeverShownAgain}
 use Rattle.crew.proofs.Right.{version-dot}
 use Rattle.crew.proofs.Steps.{for-each, Steps, for-at}
-use Rattle.crew.proofs.Sound.{Sound, history, ours-is, sound, later-sound}
+use Rattle.crew.proofs.Sound.{Sound, history, sound, later-sound}
 use Rattle.crew.proofs.Invariant.{In, Inv}
 use Rattle.crew.proofs.Held.{next-writes, invariant}
 use Rattle.crew.proofs.Shown.{in-due, due-in, due-ascends, shows}

@@ -14,7 +14,7 @@ use Rattle.numbers.specs.Words.{some?, all?, map}
 use Rattle.numbers.specs.Numbers.{same-controller}
 use Rattle.numbers.specs.Dot.{same-dot}
 use Rattle.numbers.specs.Key.{same-key}
-use Rattle.numbers.proofs.Tests.{by-test, never, and-left, and-right, _∈_, and-both}
+use Rattle.numbers.proofs.Tests.{by-test, never, and-left, and-right, _∈_, and-both, or-neither}
 use Rattle.numbers.proofs.Lists.{some-in}
 use Rattle.numbers.proofs.Controllers.{Crew, same-controllers}
 use Rattle.numbers.proofs.Dots.{same-dots, key-itself}
@@ -87,9 +87,6 @@ contents-itself deleted = refl
 none-of : {A : Type 0} (f : A → Bool) (xs : List A) → ((x : A) → x ∈ xs → f x ≡ true → ⊥) → some? f xs ≡ false
 none-of f xs h = by-test (some? f xs) (λ t. let q = some-in f xs t in absurd (h (q .0) (q .1) (q .2))) (λ e. e)
 
-both-false : (a b : Bool) → a ≡ false → b ≡ false → (a || b) ≡ false
-both-false a b p q = rw (p, q)
-
 -- ---- at a moment of a run
 
 module _ (t : CrewTable) (ok : is-table t ≡ true) (M : Moment) (reached : Reached t M) (n : Controller) (on : M .started n ≡ true) where
@@ -127,7 +124,7 @@ module _ (t : CrewTable) (ok : is-table t ≡ true) (M : Moment) (reached : Reac
   not-ahead : (k : Key) (o : Object) → Written k o → ContextLow M (o .context) → ahead-of-us s o ≡ false
   unfolding ahead-of-us
   not-ahead k o W low =
-      both-false (some? (λ v. same-controller (v .dot .who) (s .own) && ltb (own-base s) (v .dot .count .0)) (o .versions)) (ltb (own-base s) (entry (o .context) (s .own) .0))
+      or-neither (some? (λ v. same-controller (v .dot .who) (s .own) && ltb (own-base s) (v .dot .count .0)) (o .versions)) (ltb (own-base s) (entry (o .context) (s .own) .0))
       (none-of (λ v. same-controller (v .dot .who) (s .own) && ltb (own-base s) (v .dot .count .0)) (o .versions)
       (λ v m h.
       let mine = same-controllers (v .dot .who) (s .own) (and-left (same-controller (v .dot .who) (s .own)) (ltb (own-base s) (v .dot .count .0)) h) in
@@ -180,7 +177,7 @@ module _ (t : CrewTable) (ok : is-table t ≡ true) (M : Moment) (reached : Reac
       free : (v : Version) → (w : Write) × (w ∈ M .writes) × (version-of w ≡ v) × (w .key ≡ k) → clashes s k v ≡ false
       free v w =
           unfold clashes in
-          (both-false
+          (or-neither
           (some? (λ p. some? (λ u. same-dot (v .dot) (u .dot) && not (same-key k (p .key) && same-contents (v .contents) (u .contents))) (p .object .versions)) (s .points))
           (some? (λ l. same-dot (v .dot) (l .dot) && not (same-key k (l .key))) (listed s))
           (none-of (λ p. some? (λ u. same-dot (v .dot) (u .dot) && not (same-key k (p .key) && same-contents (v .contents) (u .contents))) (p .object .versions)) (s .points)
@@ -214,7 +211,7 @@ module _ (t : CrewTable) (ok : is-table t ≡ true) (M : Moment) (reached : Reac
       (fine-row OutOfRange (not (all? (λ p. both-hold s (r .message .sender) (p .key)) (r .message .points))) _ (omega arith)
       (fine-row NotPeer (not (other-peer s (r .message .sender) && same-controller (r .message .addressee) (s .own))) _ (omega arith)
       (fine-test HistoryLost (some? (λ p. ahead-of-us s (p .object)) (r .message .points) || row-ahead-of-us s (r .message .clock)) _
-      (both-false (some? (λ p. ahead-of-us s (p .object)) (r .message .points)) (row-ahead-of-us s (r .message .clock))
+      (or-neither (some? (λ p. ahead-of-us s (p .object)) (r .message .points)) (row-ahead-of-us s (r .message .clock))
       (none-of (λ p. ahead-of-us s (p .object)) (r .message .points) (λ p m q. never q (not-ahead (p .key) (p .object) (written p m) (B .replies r h .points p m))))
       (row-not-ahead (r .message .clock) (B .replies r h .clock)))
       (fine-test DotClash (some? (λ p. some? (clashes s (p .key)) (p .object .versions)) (r .message .points)) _

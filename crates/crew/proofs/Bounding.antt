@@ -27,12 +27,13 @@ use Rattle.meaning.specs.Exchange.{ask, as-stored, Replied, reply, mended}
 use Rattle.meaning.specs.Write.{Write}
 use Rattle.laws.proofs.Goodness.{Good}
 use Rattle.laws.proofs.Facts.{in-dots}
+use Rattle.laws.proofs.StaysGood.{TakenIn, taken-in}
 use Rattle.crew.specs.Moment.{Sent, Moment, beginning, starting, seeing, made, writing, asking, replying, brings, reply-brings}
 use Rattle.crew.specs.Run as run
 use Rattle.crew.specs.Run.{Next, Reached, now, _then_}
 use Rattle.crew.proofs.Right.{_∪_, At, dot-of, History}
 use Rattle.crew.proofs.Looking.{ascending-distinct}
-use Rattle.crew.proofs.Storing.{dot-made, TakenIn, taken-in}
+use Rattle.crew.proofs.Storing.{dot-made}
 use Rattle.crew.proofs.Wrote.{written-own, written-other}
 use Rattle.crew.proofs.Repaired.{with-row-has, Brought, Mended, repaired, distinct-mended}
 use Rattle.crew.proofs.Steps.{for-each, Steps, take-in-steps, repair-steps, strip-steps, for-at}

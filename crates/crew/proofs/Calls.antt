@@ -24,11 +24,12 @@ use Rattle.laws.proofs.ContextLaws.{Named, Rising, higher-named}
 use Rattle.laws.proofs.Goodness.{Good}
 use Rattle.laws.proofs.Entering.{entered-more}
 use Rattle.laws.proofs.Settling.{Growing}
+use Rattle.laws.proofs.StaysGood.{TakenIn}
 use Rattle.crew.specs.Moment.{Sent, Moment, for, starting, seeing, made, brings}
 use Rattle.crew.proofs.Right.{Writes, _∪_, At, History, Right}
 use Rattle.crew.proofs.Looking.{ascending-distinct}
 use Rattle.crew.proofs.Knows.{Knows, local-named}
-use Rattle.crew.proofs.Storing.{dots-counted, TakenIn, take-in-right, take-in-knows}
+use Rattle.crew.proofs.Storing.{dots-counted, take-in-right, take-in-knows}
 use Rattle.crew.proofs.Storing as storing
 use Rattle.crew.proofs.Repaired as mending
 use Rattle.crew.proofs.Stripped.{strip-pass-knows}

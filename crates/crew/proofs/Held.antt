@@ -12,11 +12,11 @@ use Rattle.meaning.specs.Write.{Write}
 use Rattle.meaning.specs.Context.{Context}
 use Rattle.meaning.specs.OwnSteps.{Done}
 use Rattle.laws.proofs.OtherSteps.{mark-each}
+use Rattle.laws.proofs.StaysGood.{taken-in}
 use Rattle.crew.specs.Moment.{Moment, beginning, starting, seeing, made, writing, asking, replying}
 use Rattle.crew.specs.Run as run
 use Rattle.crew.specs.Run.{Next, Later, Reached, now, _then_}
 use Rattle.crew.proofs.Right.{Writes, History}
-use Rattle.crew.proofs.Storing.{taken-in}
 use Rattle.crew.proofs.Repaired.{repaired}
 use Rattle.crew.proofs.Stripped.{fresh-knows}
 use Rattle.crew.proofs.Sound.{Sound, history, start-is, Wrote, wrote, deleted-is, later-sound, begins-sound, sound}

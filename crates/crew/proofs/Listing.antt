@@ -1,5 +1,5 @@
 -- The dot lists and the watermark after a step: an own dot stays listed until the watermark of every peer has it. Assumes nothing.
-use Prim.Native.Nat.{ℕ, _≤_, max}
+use Prim.Native.Nat.{ℕ, _≤_}
 use mathlib.Core.Path.{_≡_, refl, sym, ap, subst}
 use mathlib.Core.Logic.{_⊎_, inl, inr, ⊎-elim}
 use mathlib.Core.Bool.{Bool, true, false, _&&_, _||_, not}
@@ -9,7 +9,7 @@ use lib.Dec.{leb}
 use borrow.Author.Tests.{leb-true}
 use Rattle.numbers.specs.declared.Controller.{Controller}
 use Rattle.numbers.specs.declared.Dot.{Dot}
-use Rattle.numbers.specs.Words.{if_then_else_, keep, place-all}
+use Rattle.numbers.specs.Words.{keep, place-all}
 use Rattle.numbers.specs.Numbers.{same-controller, controllers}
 use Rattle.numbers.proofs.Tests.{by-test, never, and-left, or-cases, not-true, _∈_, here, there}
 use Rattle.numbers.proofs.Lists.{in-keep, keep-in, all-in, Tied, place-here, place-there, in-left}
@@ -23,7 +23,7 @@ use Rattle.meaning.specs.Settle.{newly-listed, own-listed}
 use Rattle.meaning.specs.Exchange.{raised, known-to-all, tidied}
 use Rattle.laws.proofs.Goodness.{Good}
 use Rattle.laws.proofs.Putting.{in-newly}
-use Rattle.laws.proofs.OtherSteps.{mark-each}
+use Rattle.laws.proofs.OtherSteps.{raised-mark}
 
 -- peers by the crew's table
 abbrev pub Peer : CrewTable → Controller → Controller → Bool
@@ -68,16 +68,6 @@ module _ (s : State) (G : Good s) (rs : List Stored) where
 -- ---- the watermark after a repair
 
 module _ (s : State) (r : Reply) where
-  abbrev raise : Controller → Controller → ℕ
-  raise m n =
-      if same-controller m (r .sender) && peers s (s .own) n then max (mark (s .watermark) m n) (row (r .clock) n .base)
-      else (if same-controller m (s .own) then max (mark (s .watermark) m n) (row (s .clock) n .base)
-      else mark (s .watermark) m n)
-
-  raised-mark : (m n : Controller) → Crew m → Crew n → mark (raised s r) m n ≡ raise m n
-  unfolding raised
-  raised-mark m n x y = mark-each raise m n x y
-
   -- no entry is raised above what is had
   pub raised-low : (B : Controller → Controller → ℕ)
       → ((m n : Controller) → Crew m → Crew n → mark (s .watermark) m n ≤ B m n)
@@ -85,7 +75,7 @@ module _ (s : State) (r : Reply) where
       → ((n : Controller) → Crew n → row (s .clock) n .base ≤ B (s .own) n)
       → (m n : Controller) → Crew m → Crew n → mark (raised s r) m n ≤ B m n
   raised-low B old theirs ours m n x y =
-      rw (raised-mark m n x y)
+      rw (raised-mark s r m n x y)
       (by-test (same-controller m (r .sender) && peers s (s .own) n)
       (λ t. rw t
       (let e = same-controllers m (r .sender) (and-left (same-controller m (r .sender)) (peers s (s .own) n) t) in

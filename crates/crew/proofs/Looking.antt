@@ -6,19 +6,13 @@ use mathlib.Core.List.{List, [], _∷_, List·Memᴰ·not-nil, List·Memᴰ·cas
 use Rattle.numbers.specs.declared.Key.{Key}
 use Rattle.numbers.specs.Words.{if_then_else_, place, fold}
 use Rattle.numbers.specs.Key.{same-key, key-before}
-use Rattle.numbers.proofs.Tests.{by-test, never, _∈_, here, there}
+use Rattle.numbers.proofs.Tests.{by-test, _∈_, here, there}
 use Rattle.numbers.proofs.Orders.{Ascends, ascends-first, ascends-rest}
-use Rattle.numbers.proofs.Dots.{same-keys, key-itself, tied-keys, key-order}
+use Rattle.numbers.proofs.Dots.{same-keys, key-itself, tied-keys, other-before, other-way}
 use Rattle.meaning.specs.Clock.{Clock}
 use Rattle.meaning.specs.Object.{Object, no-object, strip, gone}
 use Rattle.meaning.specs.State.{Stored, stored-before, look-up}
 use Rattle.meaning.specs.Settle.{without, stripped, put}
-
-pub other-before : (a b : Key) → key-before a b ≡ true → same-key b a ≡ false
-other-before a b t = by-test (same-key b a) (λ e. never (subst (λ (x : Key). key-before a x ≡ true) (same-keys b a e) t) (key-order .itself a)) (λ e. e)
-
-pub other-way : (a b : Key) → same-key a b ≡ false → same-key b a ≡ false
-other-way a b f = by-test (same-key b a) (λ e. never (subst (λ (x : Key). same-key a x ≡ true) (sym (same-keys b a e)) (key-itself a)) f) (λ e. e)
 
 look-here : (k : Key) (p : Stored) (ps : List Stored) → same-key k (p .key) ≡ true → look-up k (p ∷ ps) ≡ p .object
 unfolding look-up

@@ -1,7 +1,7 @@
 -- A message taken in again changes no reading: neither its versions nor its context. Assumes nothing.
 use Prim.Native.Nat.{ℕ, _≤_, max}
 use mathlib.Core.Path.{_≡_, refl, sym, ap, _∙_, subst}
-use mathlib.Core.Logic.{_⊎_, inl, _↔_, ⊎-elim}
+use mathlib.Core.Logic.{inl, _↔_, ⊎-elim}
 use mathlib.Core.Bool.{true, false, _&&_, not}
 use mathlib.Core.List.{List, [], _∷_, List·Memᴰ·not-nil, List·Memᴰ·eq-of-singleton}
 use native.Mathlib.Omega.{arith}
@@ -12,10 +12,9 @@ use Rattle.numbers.specs.declared.Counter.{Counter}
 use Rattle.numbers.specs.declared.Dot.{Dot}
 use Rattle.numbers.specs.declared.Key.{Key}
 use Rattle.numbers.specs.Words.{fold, keep}
-use Rattle.numbers.specs.Numbers.{counter, is-controller, is-counter, same-controller, each}
+use Rattle.numbers.specs.Numbers.{counter, is-counter, same-controller, each}
 use Rattle.numbers.specs.Key.{is-key, same-key}
 use Rattle.numbers.proofs.Tests.{by-test, never, or-cases, not-true, _∈_, here}
-use Rattle.numbers.proofs.Lists.{clause}
 use Rattle.numbers.proofs.Controllers.{Crew, each-same, each-entry, same-controllers}
 use Rattle.numbers.proofs.Dots.{dot-path}
 use Rattle.refusal.specs.declared.Refusal.the-variants.{OutOfRange}
@@ -31,22 +30,23 @@ use Rattle.meaning.specs.Clock.{Clock, row, in-clock, with-row}
 use Rattle.meaning.specs.Context.{Context, entry, covers, fill-context, higher}
 use Rattle.meaning.specs.Object.{Version, Object, has-dot, fill, merge, has-value}
 use Rattle.meaning.specs.State.{Stored, Listed, State, look-up, local, dots-of}
-use Rattle.meaning.specs.Message.{Outgoing, point-formed, covers-all, outgoing-formed}
+use Rattle.meaning.specs.Message.{Outgoing}
 use Rattle.meaning.specs.Settle.{entered, put, settled}
 use Rattle.meaning.specs.OwnSteps.{ours, shown, read}
 use Rattle.laws.proofs.ContextLaws.{same-counter, Within, Named, covers-within, fill-twice, higher-named}
 use Rattle.laws.proofs.MergeLaws.{has-dot-of, in-survivors, in-merge, higher-within, higher-within′, merge-from}
-use Rattle.laws.proofs.Facts.{PointFacts, point-facts, covers-each, in-dots}
+use Rattle.laws.proofs.Facts.{in-dots}
 use Rattle.laws.proofs.Goodness.{Good}
 use Rattle.laws.proofs.Entering.{united-row, entered-row, entered-eight, counts, in-counts, entered-has, same-clocks}
 use Rattle.laws.proofs.Local.{LocalFacts, local-facts}
+use Rattle.laws.proofs.StaysGood.{TakenIn, taken-in}
+use Rattle.laws.proofs.Merging.{Carried}
 use Rattle.crew.specs.Moment.{Sent, Moment, seeing, brings}
 use Rattle.crew.specs.Run as run
 use Rattle.crew.specs.Run.{Reached, _then_}
 use Rattle.crew.specs.Demand.{AgainShowsTheSame}
 use Rattle.crew.proofs.Looking.{kept, Distinct, look-others, look-result, find}
 use Rattle.crew.proofs.Knows.{local-named}
-use Rattle.crew.proofs.Storing.{TakenIn, taken-in}
 use Rattle.crew.proofs.Steps.{Steps, take-in-steps, for-at}
 use Rattle.crew.proofs.Sound.{Sound, sound}
 use Rattle.crew.proofs.Stripping.{kept-shows}
@@ -187,13 +187,6 @@ read-same s x D k e i =
 
 -- ---- a message taken in again
 
--- what refusal 4 leaves of an outgoing message
-out-facts : (t : CrewTable) (m : Outgoing) → outgoing-formed t m ≡ true → PointFacts t (m .key) (m .object) × ((v : Version) → v ∈ m .object .versions → covers (m .object .context) (v .dot) ≡ true)
-unfolding outgoing-formed
-out-facts t m e =
-    let bs = is-controller (m .sender) ∷ point-formed t (m .key) (m .object) ∷ covers-all (m .object .context) (m .object .versions) ∷ [] in
-    (point-facts t (m .key) (m .object) (clause bs e 1), covers-each (m .object .context) (m .object .versions) (clause bs e 2))
-
 -- once taken in, the message's context is within the filled one
 module _ (t : CrewTable) (ok : is-table t ≡ true) (M : Moment) (r : Reached t M) (n : Controller) (on : M .started n ≡ true) (m : Sent Outgoing) (mm : m ∈ M .outgoings) where
   I : Inv t (In (M .writes)) M
@@ -243,8 +236,8 @@ module _ (t : CrewTable) (ok : is-table t ≡ true) (M : Moment) (r : Reached t 
     L : LocalFacts s k (local s k)
     L = local-facts s G k (A .held)
 
-    F : PointFacts (s .table) k (m .message .object) × ((v : Version) → v ∈ m .message .object .versions → covers (m .message .object .context) (v .dot) ≡ true)
-    F = out-facts (s .table) (m .message) (A .formed)
+    F : Carried s k (m .message .object)
+    F = A .carried
 
     version-of-dot : (l : Listed) → l ∈ dots-of (item ∷ []) → (v : Version) × (v ∈ item .object .versions) × (v .dot ≡ l .dot)
     version-of-dot l h =
@@ -255,13 +248,13 @@ module _ (t : CrewTable) (ok : is-table t ≡ true) (M : Moment) (r : Reached t 
     known l h =
         let q = version-of-dot l h in
         subst (λ (d : Dot). in-clock (s .clock) d ≡ true) (q .2)
-        (merged-known s k (local s k) (m .message .object) (L .known) (F .1) (λ v g. F .0 .versions .each v g .crew) low (q .0) (q .1))
+        (merged-known s k (local s k) (m .message .object) (L .known) (F .object .covered) (λ v g. F .object .versions .each v g .crew) low (q .0) (q .1))
 
     crew : (l : Listed) → l ∈ dots-of (item ∷ []) → Crew (l .dot .who)
     crew l h =
         let q = version-of-dot l h in
         subst (λ (d : Dot). Crew (d .who)) (q .2)
-        (⊎-elim (λ g. L .object .versions .each (q .0) g .crew) (λ g. F .0 .versions .each (q .0) g .crew) (merge-from (local s k) (m .message .object) (q .1)))
+        (⊎-elim (λ g. L .object .versions .each (q .0) g .crew) (λ g. F .object .versions .each (q .0) g .crew) (merge-from (local s k) (m .message .object) (q .1)))
 
     same-context : item .object .context ≡ local s k .context
     unfolding merge

@@ -1,35 +1,36 @@
 -- A reply repaired from again changes no reading: neither its versions nor its context. Assumes nothing.
 use Prim.Native.Nat.{_≤_}
 use mathlib.Core.Path.{_≡_, refl, sym, ap, _∙_, subst}
-use mathlib.Core.Logic.{_⊎_, ⊎-elim}
+use mathlib.Core.Logic.{⊎-elim}
 use mathlib.Core.Bool.{true}
-use mathlib.Core.List.{List, [], _∷_}
+use mathlib.Core.List.{List}
 use native.Mathlib.Nat.{le-trans}
 use Rattle.numbers.specs.declared.Controller.{Controller}
 use Rattle.numbers.specs.declared.Counter.{Counter}
 use Rattle.numbers.specs.declared.Dot.{Dot}
 use Rattle.numbers.specs.declared.Key.{Key}
-use Rattle.numbers.specs.Words.{all?, ascends?, map}
-use Rattle.numbers.specs.Numbers.{is-controller, is-counter, each}
+use Rattle.numbers.specs.Words.{map}
+use Rattle.numbers.specs.Numbers.{is-counter, each}
 use Rattle.numbers.proofs.Tests.{_∈_}
-use Rattle.numbers.proofs.Lists.{all-in, in-map, map-in, clause}
-use Rattle.numbers.proofs.Controllers.{Crew, crew-is}
+use Rattle.numbers.proofs.Lists.{in-map, map-in}
+use Rattle.numbers.proofs.Controllers.{Crew}
 use Rattle.row.specs.Row.{has}
 use Rattle.meaning.specs.CrewTable.{CrewTable, is-table}
 use Rattle.meaning.specs.Clock.{Clock, row, in-clock, with-row}
 use Rattle.meaning.specs.Context.{entry, covers, fill-context}
 use Rattle.meaning.specs.Object.{Version, Object, fill, merge}
-use Rattle.meaning.specs.State.{Stored, stored-before, Listed, State, local, dots-of}
-use Rattle.meaning.specs.Message.{Reply, point-formed, covers-all, clock-formed, dots-agree, reply-formed}
+use Rattle.meaning.specs.State.{Stored, Listed, State, local, dots-of}
+use Rattle.meaning.specs.Message.{Reply}
 use Rattle.meaning.specs.Settle.{entered, settled}
 use Rattle.meaning.specs.OwnSteps.{shown, read}
 use Rattle.meaning.specs.Exchange.{tidied, mended}
 use Rattle.laws.proofs.ContextLaws.{Within}
-use Rattle.laws.proofs.MergeLaws.{merge-from, higher-within, higher-within′}
-use Rattle.laws.proofs.Facts.{PointFacts, point-facts, covers-each, in-dots}
+use Rattle.laws.proofs.MergeLaws.{merge-from, higher-within′}
+use Rattle.laws.proofs.Facts.{point-facts, covers-each, in-dots}
 use Rattle.laws.proofs.Goodness.{Good}
 use Rattle.laws.proofs.Entering.{entered-more}
 use Rattle.laws.proofs.Local.{LocalFacts, local-facts}
+use Rattle.laws.proofs.Formed.{FormedReply, formed-reply}
 use Rattle.crew.specs.Moment.{Sent, Moment, seeing, reply-brings}
 use Rattle.crew.specs.Run as run
 use Rattle.crew.specs.Run.{Reached, _then_}
@@ -47,30 +48,6 @@ use Rattle.crew.proofs.Held.{invariant}
 use Rattle.crew.proofs.Again.{later-on, Keeps, later-keeps, shown-the-same, brought-before}
 use Rattle.crew.proofs.Rising.{result-within, mended-each, mended-holders, Ahead, later-ahead}
 use Rattle.crew.proofs.Repeated.{entered-same, united-same, higher-same, merged-known, stored-shows, read-same}
-
--- what refusal 4 leaves of a reply's point
-reply-facts : (t : CrewTable) (r : Reply) → reply-formed t r ≡ true → (p : Stored) → p ∈ r .points
-    → PointFacts t (p .key) (p .object) × ((v : Version) → v ∈ p .object .versions → covers (fill-context t (p .key .job) (r .clock) (p .object .context)) (v .dot) ≡ true)
-unfolding reply-formed
-reply-facts t r e p m =
-    let bs = is-controller (r .sender) ∷ is-controller (r .addressee) ∷ clock-formed t (r .sender) (r .clock)
-    ∷ all? (λ q. point-formed t (q .key) (q .object)) (r .points)
-    ∷ all? (λ q. covers-all (fill-context t (q .key .job) (r .clock) (q .object .context)) (q .object .versions)) (r .points)
-    ∷ ascends? stored-before (r .points) ∷ dots-agree (dots-of (r .points)) (dots-of (r .points)) ∷ [] in (
-      point-facts t (p .key) (p .object) (all-in (λ q. point-formed t (q .key) (q .object)) (r .points) (clause bs e 3) m),
-      covers-each (fill-context t (p .key .job) (r .clock) (p .object .context)) (p .object .versions)
-          (all-in (λ q. covers-all (fill-context t (q .key .job) (r .clock) (q .object .context)) (q .object .versions)) (r .points) (clause bs e 4) m),
-    )
-
-sender-crew : (t : CrewTable) (r : Reply) → reply-formed t r ≡ true → Crew (r .sender)
-unfolding reply-formed
-sender-crew t r e =
-    crew-is (r .sender)
-    (clause
-    (is-controller (r .sender) ∷ is-controller (r .addressee) ∷ clock-formed t (r .sender) (r .clock)
-    ∷ all? (λ q. point-formed t (q .key) (q .object)) (r .points)
-    ∷ all? (λ q. covers-all (fill-context t (q .key .job) (r .clock) (q .object .context)) (q .object .versions)) (r .points)
-    ∷ ascends? stored-before (r .points) ∷ dots-agree (dots-of (r .points)) (dots-of (r .points)) ∷ []) e 0)
 
 local-tidied : (x : State) (r : Reply) (k : Key) → local (tidied x r) k ≡ local x k
 unfolding tidied local
@@ -140,7 +117,7 @@ module _ (t : CrewTable) (ok : is-table t ≡ true) (M : Moment) (reached : Reac
       d = record { who = r .sender; count = c }
 
       crew : Crew (r .sender)
-      crew = sender-crew (s .table) r (A .formed)
+      crew = formed-reply (s .table) r (A .formed) .sender
 
       counted : (l : Listed) → l ∈ dots-of rs → is-counter (l .dot .count) ≡ true
       counted =
@@ -156,17 +133,16 @@ module _ (t : CrewTable) (ok : is-table t ≡ true) (M : Moment) (reached : Reac
     L : (p : Stored) → p ∈ r .points → LocalFacts s (p .key) (local s (p .key))
     L p h = local-facts s G (p .key) (A .held p h)
 
-    F : (p : Stored) → p ∈ r .points
-        → PointFacts (s .table) (p .key) (p .object) × ((v : Version) → v ∈ p .object .versions → covers (fill-context (s .table) (p .key .job) (r .clock) (p .object .context)) (v .dot) ≡ true)
-    F p h = reply-facts (s .table) r (A .formed) p h
+    F : FormedReply (s .table) r
+    F = formed-reply (s .table) r (A .formed)
 
     filled-crew : (p : Stored) (h : p ∈ r .points) (v : Version) → v ∈ filled p .versions → Crew (v .dot .who)
     unfolding fill
-    filled-crew p h v g = F p h .0 .versions .each v g .crew
+    filled-crew p h v g = point-facts (s .table) (p .key) (p .object) (F .point p h) .versions .each v g .crew
 
     filled-covered : (p : Stored) (h : p ∈ r .points) (v : Version) → v ∈ filled p .versions → covers (filled p .context) (v .dot) ≡ true
     unfolding fill
-    filled-covered p h v g = F p h .1 v g
+    filled-covered p h v g = covers-each (fill-context (s .table) (p .key .job) (r .clock) (p .object .context)) (p .object .versions) (F .covered p h) v g
 
     -- the dots of the results are known
     of-dots : (P : Dot → Type 0) → ((p : Stored) → p ∈ r .points → (v : Version) → v ∈ merge (local s (p .key)) (filled p) .versions → P (v .dot)) → (l : Listed) → l ∈ dots-of rs → P (l .dot)
@@ -250,7 +226,7 @@ repair-again-shows-the-same t ok M N r n on m mm s e l x f = told-shows t ok N r
         (subst (λ (z : State). entry (local z (p .key) .context) j .0 ≤ entry (local (N .state n) (p .key) .context) j .0) state-then (ahead .contexts n (p .key) j c)))
 
     in-row : (c : Counter) → has (row (m .message .clock) (m .message .sender)) c ≡ true → has (row (N .state n .clock) (m .message .sender)) c ≡ true
-    in-row c h = at-last (ahead .clocks n d (sender-crew (M .state n .table) (m .message) (before .formed)) (subst (λ (z : State). in-clock (z .clock) d ≡ true) (sym state-then) (told-row t ok M r n on m mm s before c h)))
+    in-row c h = at-last (ahead .clocks n d (formed-reply (M .state n .table) (m .message) (before .formed) .sender) (subst (λ (z : State). in-clock (z .clock) d ≡ true) (sym state-then) (told-row t ok M r n on m mm s before c h)))
       where
         d : Dot
         d = record { who = m .message .sender; count = c }

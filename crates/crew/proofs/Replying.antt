@@ -3,16 +3,16 @@ use Prim.Native.Nat.{_≤_}
 use mathlib.Core.Path.{_≡_, sym, ap, _∙_, subst}
 use mathlib.Core.Logic.{_⊎_, inl, inr, ⊎-elim}
 use mathlib.Core.Bool.{Bool, true, false, _&&_, not}
-use mathlib.Core.List.{List, [], _∷_, List·Memᴰ·cases-cons, List·Memᴰ·not-nil}
+use mathlib.Core.List.{List, [], List·Memᴰ·cases-cons, List·Memᴰ·not-nil}
 use native.Mathlib.Nat.{le-refl}
 use Rattle.numbers.specs.declared.Controller.{Controller}
 use Rattle.numbers.specs.declared.Key.{Key}
-use Rattle.numbers.specs.Words.{some?, all?, ascends?, map, place-all}
+use Rattle.numbers.specs.Words.{some?, ascends?, map, place-all}
 use Rattle.numbers.specs.Numbers.{is-controller, same-controller}
 use Rattle.numbers.specs.Key.{key-before}
 use Rattle.numbers.proofs.Tests.{by-test, and-left, and-right, and-both, or-cases, or-inl, or-inr, _∈_}
-use Rattle.numbers.proofs.Lists.{in-keep, keep-in, some-in, in-some, in-map, map-in, in-place-all, in-left, clause}
-use Rattle.numbers.proofs.Controllers.{Crew, crew-is, same-controllers, controller-itself}
+use Rattle.numbers.proofs.Lists.{in-keep, keep-in, some-in, in-some, in-map, map-in, in-place-all, in-left}
+use Rattle.numbers.proofs.Controllers.{Crew, same-controllers, controller-itself}
 use Rattle.numbers.proofs.Dots.{tied-keys}
 use Rattle.refusal.specs.declared.Refusal.the-variants.{IllFormed, OutOfRange, NotPeer, HistoryLost}
 use Rattle.refusal.specs.Refusal.{accepted}
@@ -20,10 +20,9 @@ use Rattle.row.specs.Row.{has}
 use Rattle.row.proofs.Members.{low-has}
 use Rattle.meaning.specs.CrewTable.{CrewTable, jobs, holds, share-job}
 use Rattle.meaning.specs.Clock.{Clock, row, in-clock}
-use Rattle.meaning.specs.Context.{fill-context}
 use Rattle.meaning.specs.Object.{fill}
-use Rattle.meaning.specs.State.{Stored, stored-before, Listed, State, peers, listed, dots-of, look-up, local}
-use Rattle.meaning.specs.Message.{Ask, Reply, point-formed, covers-all, clock-formed, dots-agree, ask-formed, reply-formed}
+use Rattle.meaning.specs.State.{Stored, stored-before, Listed, State, peers, listed, look-up, local}
+use Rattle.meaning.specs.Message.{Ask, Reply, ask-formed, reply-formed}
 use Rattle.meaning.specs.Exchange.{other-peer, row-ahead-of-us, ask, lacking, as-stored, Replied, reply}
 use Rattle.meaning.specs.Write.{Write}
 use Rattle.laws.proofs.ContextLaws.{Named}
@@ -31,6 +30,7 @@ use Rattle.laws.proofs.Goodness.{Good}
 use Rattle.laws.proofs.Settling.{Growing}
 use Rattle.laws.proofs.Answers.{same-accepted, passes, passes-not}
 use Rattle.laws.proofs.Sends.{sends-reply}
+use Rattle.laws.proofs.Formed.{formed-reply, formed-ask}
 use Rattle.crew.specs.Moment.{Sent, Moment, made, asking, replying, carries}
 use Rattle.crew.proofs.Right.{Writes, At, History, Right, positive}
 use Rattle.crew.proofs.Looking.{ascending-distinct}
@@ -100,7 +100,7 @@ replied-to s a r e =
     let peer = passes-not NotPeer (other-peer s (a .sender) && same-controller (a .addressee) (s .own)) _ (formed .1) in
     let ahead = passes HistoryLost (row-ahead-of-us s (a .clock)) _ (peer .1) in
     record {
-      asker = crew-is (a .sender) (unfold ask-formed in (clause (is-controller (a .sender) ∷ is-controller (a .addressee) ∷ clock-formed (s .table) (a .sender) (a .clock) ∷ []) (formed .0) 0));
+      asker = formed-ask (s .table) a (formed .0) .sender;
       peer = unfold other-peer peers in
           (and-right (not (same-controller (a .sender) (s .own))) (Peer (s .table) (s .own) (a .sender)) (and-left (other-peer s (a .sender)) (same-controller (a .addressee) (s .own)) (peer .0)));
       message = ap (λ (z : Replied). z .message) (same-accepted _ r (ahead .1));
@@ -127,13 +127,7 @@ module _ (t : CrewTable) (All : Writes) (H : History t All) (M : Moment) (S : So
   formed = subst (λ (z : Reply). reply-formed (s₁ .table) z ≡ true) (sym (A .message)) (sends-reply s₁ G₁ a r e .0)
 
   ascending : ascends? stored-before (msg .points) ≡ true
-  unfolding reply-formed
-  ascending =
-      clause
-      (is-controller (msg .sender) ∷ is-controller (msg .addressee) ∷ clock-formed (s₁ .table) (msg .sender) (msg .clock)
-      ∷ all? (λ p. point-formed (s₁ .table) (p .key) (p .object)) (msg .points)
-      ∷ all? (λ p. covers-all (fill-context (s₁ .table) (p .key .job) (msg .clock) (p .object .context)) (p .object .versions)) (msg .points)
-      ∷ ascends? stored-before (msg .points) ∷ dots-agree (dots-of (msg .points)) (dots-of (msg .points)) ∷ []) formed 5
+  ascending = formed-reply (s₁ .table) msg formed .ascend
 
   -- a point sent is that of a listed dot, of a job that we hold
   key-held : (k : Key) → k ∈ keys s₁ a → holds (s₁ .table) (s₁ .own) (k .job) ≡ true

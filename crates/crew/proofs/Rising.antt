@@ -30,13 +30,13 @@ use Rattle.laws.proofs.Goodness.{Good}
 use Rattle.laws.proofs.Entering.{entered-base}
 use Rattle.laws.proofs.Settling.{Growing}
 use Rattle.laws.proofs.Local.{local-facts}
+use Rattle.laws.proofs.StaysGood.{TakenIn, taken-in}
 use Rattle.crew.specs.Moment.{Sent, Moment, for, starting, seeing, made, writing, asking, replying, brings, reply-brings}
 use Rattle.crew.specs.Run as run
 use Rattle.crew.specs.Run.{Next, Later, Reached, now, _then_}
 use Rattle.crew.proofs.Right.{Writes, History}
 use Rattle.crew.proofs.Looking.{kept, Distinct, ascending-distinct, look-others, look-result, find}
 use Rattle.crew.proofs.Knows.{Between, fill-up, kept-between, fill-between, local-named}
-use Rattle.crew.proofs.Storing.{TakenIn, taken-in}
 use Rattle.crew.proofs.Wrote.{written-own, written-other}
 use Rattle.crew.proofs.Repaired.{with-row-rising, Mended, repaired, distinct-mended}
 use Rattle.crew.proofs.Stripped.{between-through, look-stripped}

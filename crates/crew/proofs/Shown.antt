@@ -1,6 +1,6 @@
 -- Demand 3: every reading of a run shows exactly what is due. Assumes nothing.
 use mathlib.Core.Path.{_≡_, refl, sym, ap, _∙_, subst}
-use mathlib.Core.Logic.{_⊎_, _↔_, ⊎-elim}
+use mathlib.Core.Logic.{_↔_, ⊎-elim}
 use mathlib.Core.Bool.{Bool, true, false, _&&_, not}
 use mathlib.Core.List.{List, [], Memᴰ·cast, List·Memᴰ·not-nil}
 use Rattle.numbers.specs.declared.Controller.{Controller}
@@ -21,11 +21,12 @@ use Rattle.meaning.specs.OwnSteps.{ours, shown, read}
 use Rattle.meaning.specs.Write.{Write, covers-write}
 use Rattle.laws.proofs.MergeLaws.{version-order}
 use Rattle.laws.proofs.Local.{local-facts}
+use Rattle.laws.proofs.StaysGood.{ours-is}
 use Rattle.crew.specs.Moment.{Moment}
 use Rattle.crew.specs.Run.{Reached}
 use Rattle.crew.specs.Demand.{version-of, covered-in, stands, due, ShownExactly, DueIsExact}
 use Rattle.crew.proofs.Right.{Writes, At, Uncovered, version-dot, version-contents, History, Right}
-use Rattle.crew.proofs.Sound.{Sound, history, ours-is, sound}
+use Rattle.crew.proofs.Sound.{Sound, history, sound}
 use Rattle.crew.proofs.Listing.{place-all-comes}
 use Rattle.crew.proofs.Invariant.{In, Inv}
 use Rattle.crew.proofs.Held.{invariant}

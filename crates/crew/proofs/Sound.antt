@@ -1,7 +1,7 @@
 -- Every moment of a run is sound: its states are good ones of the crew's table, and a dot belongs to one write. Assumes nothing.
 use Prim.Native.Nat.{ℕ, _+_, _≤_}
 use mathlib.Core.Path.{_≡_, refl, sym, ap, _∙_, subst}
-use mathlib.Core.Logic.{_⊎_, ⊎-elim}
+use mathlib.Core.Logic.{⊎-elim}
 use mathlib.Core.Bool.{true, false, true≢false}
 use mathlib.Core.List.{List, [], List·Memᴰ·not-nil, List·Memᴰ·cases-cons}
 use native.Mathlib.Omega.{arith}
@@ -13,7 +13,7 @@ use Rattle.numbers.specs.declared.Dot.{Dot}
 use Rattle.numbers.specs.declared.Key.{Key}
 use Rattle.numbers.specs.Numbers.{counter, is-controller, is-counter, same-controller}
 use Rattle.numbers.specs.Key.{is-key}
-use Rattle.numbers.proofs.Tests.{by-test, never, and-left, and-right, _∈_, here}
+use Rattle.numbers.proofs.Tests.{by-test, never, _∈_, here}
 use Rattle.numbers.proofs.Controllers.{Crew, crew-is, same-controllers, controller-itself}
 use Rattle.refusal.specs.declared.Refusal.the-variants.{OutOfRange, ValueTooLong}
 use Rattle.refusal.specs.Refusal.{Answer, accepted, _>>=_}
@@ -31,13 +31,12 @@ use Rattle.meaning.specs.Write.{Write}
 use Rattle.laws.proofs.Goodness.{Good, good-facts, facts-good}
 use Rattle.laws.proofs.Answers.{same-accepted, passes, passes-not}
 use Rattle.laws.proofs.OtherSteps.{fresh-good}
-use Rattle.laws.proofs.StaysGood.{write-accepted, delete-accepted, stays-good, Typed}
+use Rattle.laws.proofs.StaysGood.{write-accepted, delete-accepted, stays-good, Typed, taken-in, ours-is}
 use Rattle.laws.proofs.StaysGood as laws
 use Rattle.crew.specs.Moment.{Moment, for, beginning, starting, seeing, made, writing, asking, replying}
 use Rattle.crew.specs.Run as run
 use Rattle.crew.specs.Run.{Next, Later, Reached, now, _then_, Bytes}
 use Rattle.crew.proofs.Right.{History}
-use Rattle.crew.proofs.Storing.{taken-in}
 use Rattle.crew.proofs.Wrote.{written-own, PutDown, put-down-is}
 use Rattle.crew.proofs.Repaired.{repaired}
 use Rattle.crew.proofs.Steps.{for-each, Steps, stays, own-base-rises, same-steps, take-in-steps, repair-steps, strip-steps}
@@ -150,10 +149,6 @@ pub record Wrote (s : State) (k : Key) (b : Contents) (c : Context) (d : Done) :
   pub put : PutDown s k b c d
   pub fits : laws.PutDown s k b c d
   pub good : Good (d .state)
-
-pub ours-is : (s : State) (k : Key) → ours s k ≡ true → (is-key k ≡ true) × (holds (s .table) (s .own) (k .job) ≡ true)
-unfolding ours
-ours-is s k t = (and-left (is-key k) (holds (s .table) (s .own) (k .job)) t, and-right (is-key k) (holds (s .table) (s .own) (k .job)) t)
 
 stepped : (s : State) (d : Step) (x : State) → Good s → Typed d → step s d ≡ accepted x → Good x
 stepped s d x G ty e = good-facts x (stays-good s d x (facts-good s G) ty e)

@@ -18,8 +18,8 @@ use Rattle.meaning.specs.OwnSteps.{strip-pass}
 use Rattle.meaning.specs.Exchange.{tidied, mended}
 use Rattle.laws.proofs.ContextLaws.{Rising}
 use Rattle.laws.proofs.Entering.{entered-base}
+use Rattle.laws.proofs.StaysGood.{TakenIn}
 use Rattle.crew.specs.Moment.{for}
-use Rattle.crew.proofs.Storing.{TakenIn}
 use Rattle.crew.proofs.Repaired.{with-row-rising, Mended}
 
 -- what holds of x at n and of what the others have holds of all

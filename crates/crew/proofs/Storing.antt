@@ -1,6 +1,6 @@
 -- A step with one result, and taking a message in: what a controller knows is kept, for what the message had seen too. Assumes nothing.
 use mathlib.Core.Path.{_≡_, refl, sym, ap, _∙_, subst}
-use mathlib.Core.Logic.{_⊎_, inl, inr, ⊎-elim, ⊎-map}
+use mathlib.Core.Logic.{inl, inr, ⊎-elim, ⊎-map}
 use mathlib.Core.Bool.{true}
 use mathlib.Core.List.{List, [], _∷_, List·Memᴰ·not-nil, List·Memᴰ·eq-of-singleton}
 use native.Mathlib.Nat.{le-refl}
@@ -8,25 +8,22 @@ use Rattle.numbers.specs.declared.Controller.{Controller}
 use Rattle.numbers.specs.declared.Counter.{Counter}
 use Rattle.numbers.specs.declared.Dot.{Dot}
 use Rattle.numbers.specs.declared.Key.{Key}
-use Rattle.numbers.specs.Words.{some?}
 use Rattle.numbers.specs.Numbers.{is-counter}
 use Rattle.numbers.specs.Key.{same-key}
-use Rattle.numbers.proofs.Tests.{never, and-left, _∈_, here}
+use Rattle.numbers.proofs.Tests.{never, _∈_, here}
 use Rattle.numbers.proofs.Dots.{key-itself, dot-path}
-use Rattle.refusal.specs.declared.Refusal.the-variants.{IllFormed, OutOfRange, NotPeer, HistoryLost, DotClash}
 use Rattle.refusal.specs.Refusal.{accepted}
-use Rattle.meaning.specs.CrewTable.{CrewTable, holds}
+use Rattle.meaning.specs.CrewTable.{CrewTable}
 use Rattle.meaning.specs.Clock.{Clock, row}
 use Rattle.meaning.specs.Object.{Object, merge}
 use Rattle.meaning.specs.State.{Stored, Listed, State, dots-of, local}
-use Rattle.meaning.specs.Message.{Outgoing, outgoing-formed}
+use Rattle.meaning.specs.Message.{Outgoing}
 use Rattle.meaning.specs.Settle.{entered, settled}
-use Rattle.meaning.specs.Exchange.{both-hold, other-peer, ahead-of-us, clashes, take-in}
 use Rattle.meaning.specs.Write.{Write}
 use Rattle.laws.proofs.ContextLaws.{Named, higher-named}
 use Rattle.laws.proofs.Facts.{in-dots}
 use Rattle.laws.proofs.Entering.{in-counts, entered-has}
-use Rattle.laws.proofs.Answers.{passes, passes-not, settle-accepted}
+use Rattle.laws.proofs.StaysGood.{TakenIn}
 use Rattle.crew.proofs.Right.{Writes, _∪_, At, dot-of, History, Right, merge-right}
 use Rattle.crew.proofs.Knows.{Closed, Knows, local-named, Results, right-set, settled-knows}
 
@@ -93,27 +90,6 @@ module _ (All S X : Writes) (s : State) (H : History (s .table) All) (K : Knows 
 
   pub one-result : Knows All (S ∪ X) (settled s (s .clock) (record { key = k; object = o } ∷ []))
   one-result = settled-knows All S (S ∪ X) s H K (s .clock) (result ∷ []) results
-
--- what an accepted take in has tested, and what it gives
-pub record TakenIn (s : State) (m : Outgoing) (x : State) : Type 0 where
-  pub formed : outgoing-formed (s .table) m ≡ true
-  pub held : holds (s .table) (s .own) (m .key .job) ≡ true
-  pub state : settled s (s .clock) (record { key = m .key; object = merge (local s (m .key)) (m .object) } ∷ []) ≡ x
-
-pub taken-in : (s : State) (m : Outgoing) (x : State) → take-in s m ≡ accepted x → TakenIn s m x
-unfolding take-in both-hold
-taken-in s m x e =
-    let formed = passes-not IllFormed (outgoing-formed (s .table) m) _ e in
-    let held = passes-not OutOfRange (both-hold s (m .sender) (m .key)) _ (formed .1) in
-    let peer = passes-not NotPeer (other-peer s (m .sender)) _ (held .1) in
-    let ahead = passes HistoryLost (ahead-of-us s (m .object)) _ (peer .1) in
-    let clash = passes DotClash (some? (clashes s (m .key)) (m .object .versions)) _ (ahead .1) in
-    let after = settle-accepted s (s .clock) (record { key = m .key; object = merge (local s (m .key)) (m .object) } ∷ []) (clash .1) in
-    record {
-      formed = formed .0;
-      held = and-left (holds (s .table) (s .own) (m .key .job)) (holds (s .table) (m .sender) (m .key .job)) (held .0);
-      state = after .1;
-    }
 
 -- an accepted message is seen: T is what its sender had seen when it was written
 module _ (All S T : Writes) (s : State) (H : History (s .table) All) (K : Knows All S s) (m : Outgoing)

@@ -28,7 +28,7 @@ use Rattle.layout.specs.Messages.{checks-right, encode-reading, encode-outgoing
 use Rattle.layout.specs.Calls.{Left, After, afterwards, one-block, reply-room, whole-reply, whole-image, on-image, with-message, over, start-call, read-call, write-call, delete-call, take-in-call, ask-call, reply-call, repair-call, strip-pass-call}
 use Rattle.layout.proofs.ImageBack.{decode-encode}
 use Rattle.layout.proofs.Sizes.{good-sized}
-use Rattle.layout.proofs.CallsGood.{good-image, encode-good, refused-leaves, accepted-leaves, on-good-image}
+use Rattle.layout.proofs.CallsGood.{good-image, encode-good, refused-leaves, accepted-leaves, on-good-image, message-passed}
 use Rattle.crew_bytes.specs.Bytes as bytes
 use Rattle.crew_bytes.specs.Bytes.{Answers, CallOn}
 
@@ -43,11 +43,7 @@ accepted-is img out x a h =
     let p = accepted-leaves img out x (ap (λ (z : After). z .verdict) (h .0) ∙ h .1) in
     (p .0, p .1, sym (h .0) ∙ ap (afterwards img out) (p .1))
 
-message-passed : (message : List ℕ) (laid-out : Bool) (rest : Answer Left) {l : Left} → with-message message laid-out rest ≡ accepted l → rest ≡ accepted l
-unfolding with-message
-message-passed message laid-out rest e = passes-not IllFormed laid-out rest (passes-not WrongCheck (checks-right message) _ e .1) .1
-
--- and a message that passes its tests
+-- a message that passes its tests
 pub message-passes : (message : List ℕ) (laid-out : Bool) (rest : Answer Left) → checks-right message ≡ true → laid-out ≡ true → with-message message laid-out rest ≡ rest
 unfolding with-message refuse_when_else_
 message-passes message laid-out rest c l =

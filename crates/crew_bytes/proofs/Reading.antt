@@ -24,6 +24,7 @@ use Rattle.laws.proofs.Goodness.{Good}
 use Rattle.laws.proofs.Putting.{looked-up}
 use Rattle.laws.proofs.Local.{local-facts}
 use Rattle.laws.proofs.Answers.{same-accepted, passes-not}
+use Rattle.laws.proofs.StaysGood.{ours-is}
 use Rattle.layout.specs.PointBlock.{form-1}
 use Rattle.layout.specs.Image.{encode}
 use Rattle.layout.specs.Messages.{encode-reading, decode-outgoing}
@@ -31,7 +32,6 @@ use Rattle.layout.specs.Calls.{one-block, read-call}
 use Rattle.layout.proofs.PointBack.{PointSized}
 use Rattle.layout.proofs.MessagesBack.{reading-back}
 use Rattle.layout.proofs.Sizes.{point-sized}
-use Rattle.crew.proofs.Sound.{ours-is}
 use Rattle.crew_bytes.proofs.Called.{leaving, answers}
 
 -- ---- read back

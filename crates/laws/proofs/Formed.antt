@@ -16,7 +16,7 @@ use Rattle.meaning.specs.CrewTable.{CrewTable, in-some-job}
 use Rattle.meaning.specs.Clock.{Clock, row, every-row}
 use Rattle.meaning.specs.Context.{fill-context}
 use Rattle.meaning.specs.State.{Stored, stored-before, dots-of}
-use Rattle.meaning.specs.Message.{Outgoing, Reply, point-formed, covers-all, is-none, clock-formed, dots-agree, outgoing-formed, reply-formed}
+use Rattle.meaning.specs.Message.{Outgoing, Ask, Reply, point-formed, covers-all, is-none, clock-formed, dots-agree, outgoing-formed, ask-formed, reply-formed}
 use Rattle.laws.proofs.Facts.{row-at}
 
 pub record FormedClock (k : Clock) : Type 0 where
@@ -49,6 +49,17 @@ unfolding outgoing-formed
 formed-outgoing t m e =
     let tests = is-controller (m .sender) ∷ point-formed t (m .key) (m .object) ∷ covers-all (m .object .context) (m .object .versions) ∷ [] in
     record { sender = crew-is (m .sender) (clause tests e 0); point = clause tests e 1; covered = clause tests e 2 }
+
+pub record FormedAsk (a : Ask) : Type 0 where
+  pub sender : Crew (a .sender)
+  pub addressee : Crew (a .addressee)
+  pub clock : FormedClock (a .clock)
+
+pub formed-ask : (t : CrewTable) (a : Ask) → ask-formed t a ≡ true → FormedAsk a
+unfolding ask-formed
+formed-ask t a e =
+    let tests = is-controller (a .sender) ∷ is-controller (a .addressee) ∷ clock-formed t (a .sender) (a .clock) ∷ [] in
+    record { sender = crew-is (a .sender) (clause tests e 0); addressee = crew-is (a .addressee) (clause tests e 1); clock = formed-clock t (a .sender) (a .clock) (clause tests e 2) }
 
 pub record FormedReply (t : CrewTable) (r : Reply) : Type 0 where
   pub sender : Crew (r .sender)

@@ -1,18 +1,16 @@
 -- The calls on bytes: a good image is the encoding of its state, every accepted call leaves a good image, what it writes passes refusals 3
 -- and 4 of every holder of the same table, and a refused call leaves every buffer as it was. Assumes nothing.
-use Prim.Native.Nat.{ℕ, suc, _+_, _*_, _%_, _≤_, _<_}
+use Prim.Native.Nat.{ℕ, _%_, _≤_}
 use mathlib.Core.Path.{_≡_, refl, sym, ap, _∙_, subst}
-use mathlib.Core.Bool.{Bool, true, false, _&&_, not}
-use mathlib.Core.List.{List, [], _∷_, _++_}
+use mathlib.Core.Bool.{Bool, true, _&&_}
+use mathlib.Core.List.{List, []}
 use native.Mathlib.Omega.{arith}
 use lib.ListN.{length, take, drop, length-append, length-drop}
 use lib.Seq.{take-at, drop-at}
 use lib.Dec.{leb, eqb}
 use borrow.Author.Tests.{eqb-true, eq-eqb, le-leb}
-use Rattle.numbers.specs.declared.Controller.{Controller}
-use Rattle.numbers.specs.declared.Key.{Key}
 use Rattle.numbers.specs.Words.{map, same-list}
-use Rattle.numbers.specs.Numbers.{controller, counter, is-controller}
+use Rattle.numbers.specs.Numbers.{controller, counter}
 use Rattle.numbers.specs.Key.{key}
 use Rattle.numbers.proofs.Tests.{and-left, and-right, and-both}
 use Rattle.block.proofs.Same.{same-of, of-same}
@@ -20,17 +18,16 @@ use Rattle.refusal.specs.declared.Verdict.{Verdict}
 use Rattle.refusal.specs.declared.Verdict.the-variants.{Accepted, Refused}
 use Rattle.refusal.specs.declared.Refusal.{Refusal}
 use Rattle.refusal.specs.declared.Refusal.the-variants.{WrongLength, ImageNotGood, WrongCheck, IllFormed}
-use Rattle.refusal.specs.Refusal.{Answer, refused, accepted, refuse_when_else_, _>>=_}
+use Rattle.refusal.specs.Refusal.{Answer, refused, accepted, _>>=_}
 use Rattle.meaning.specs.CrewTable.{CrewTable, is-table}
-use Rattle.meaning.specs.Context.{Context}
 use Rattle.meaning.specs.Object.{value, deleted}
 use Rattle.meaning.specs.State.{State}
 use Rattle.meaning.specs.Message.{Outgoing, Ask, Reply, outgoing-formed, ask-formed, reply-formed}
 use Rattle.meaning.specs.OwnSteps.{start, read, Done, write, delete, strip-pass}
-use Rattle.meaning.specs.Exchange.{take-in, ask, Replied, reply, repair}
-use Rattle.meaning.specs.Step.{Step, writes, deletes, takes-in, repairs, strips, step}
+use Rattle.meaning.specs.Exchange.{take-in, ask, reply, repair}
+use Rattle.meaning.specs.Step.{writes, deletes, takes-in, repairs, strips, step}
 use Rattle.meaning.specs.Good.{goodState}
-use Rattle.laws.proofs.Goodness.{Good, good-facts}
+use Rattle.laws.proofs.Goodness.{good-facts}
 use Rattle.laws.proofs.Answers.{same-accepted, passes-not, bound}
 use Rattle.laws.proofs.StaysGood.{Bytes, starts-good, stays-good, write-accepted, delete-accepted}
 use Rattle.laws.proofs.Sends.{sends-outgoing, sends-ask, sends-reply}
@@ -108,7 +105,8 @@ on-good-image lengths img f e =
     let good = passes-not ImageNotGood (goodImage img) _ (sizes .1) in
     (good-image img (good .0), good .1)
 
-message-passed : (message : List ℕ) (laid-out : Bool) (rest : Answer Left) {l : Left} → with-message message laid-out rest ≡ accepted l → rest ≡ accepted l
+-- an accepted message passed its tests
+pub message-passed : (message : List ℕ) (laid-out : Bool) (rest : Answer Left) {l : Left} → with-message message laid-out rest ≡ accepted l → rest ≡ accepted l
 unfolding with-message
 message-passed message laid-out rest e = passes-not IllFormed laid-out rest (passes-not WrongCheck (checks-right message) _ e .1) .1
 

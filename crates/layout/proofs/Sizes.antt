@@ -1,18 +1,16 @@
 -- A good state and a well-formed message are within their sizes, so the codec gives them back. Assumes nothing.
-use Prim.Native.Nat.{ℕ, zero, suc, _+_, _-_, _^_, _≤_, _<_}
-use mathlib.Core.Path.{_≡_, refl, sym, ap, _∙_, subst}
-use mathlib.Core.Logic.{⊎-elim}
-use mathlib.Core.Bool.{Bool, true, false, _&&_, _||_}
-use mathlib.Core.List.{List, [], _∷_, _++_}
+use Prim.Native.Nat.{ℕ, _-_, _^_, _≤_, _<_}
+use mathlib.Core.Path.{_≡_, sym, ap, _∙_, subst}
+use mathlib.Core.Bool.{true, _&&_}
+use mathlib.Core.List.{List, [], _∷_}
 use native.Mathlib.Omega.{arith}
-use native.Mathlib.Nat.{lt-of-le-of-lt}
 use lib.ListN.{length, getD}
 use lib.Dec.{leb, ltb, eqb}
 use borrow.Author.Tests.{leb-true, ltb-true, eqb-true}
 use Rattle.numbers.specs.declared.Controller.{Controller}
 use Rattle.numbers.specs.declared.Counter.{Counter}
 use Rattle.numbers.specs.declared.Key.{Key}
-use Rattle.numbers.specs.Words.{every, all?, map}
+use Rattle.numbers.specs.Words.{every, all?}
 use Rattle.numbers.specs.Numbers.{counter, last-counter, is-controller, is-counter, is-point, is-job, each, controllers}
 use Rattle.numbers.specs.Key.{is-key}
 use Rattle.numbers.proofs.Tests.{and-left, and-right, _∈_}
@@ -21,19 +19,20 @@ use Rattle.numbers.proofs.Controllers.{Crew, crew-is, in-crew, each-entry}
 use Rattle.row.specs.declared.Row.{Row}
 use Rattle.row.specs.Row.{none-seen, fits, sound}
 use Rattle.row.proofs.Highest.{sound-base}
-use Rattle.meaning.specs.CrewTable.{CrewTable, is-table, holds, in-some-job}
-use Rattle.meaning.specs.Clock.{Clock, row, every-row}
-use Rattle.meaning.specs.Context.{Context, entry, fill-context}
-use Rattle.meaning.specs.Object.{Contents, value, deleted, Version, Object}
-use Rattle.meaning.specs.State.{Stored, Listed, Watermark, mark, State, listed}
-use Rattle.meaning.specs.Message.{Outgoing, Ask, Reply, longest-value, contents-formed, point-formed, covers-all, is-none, clock-formed, dots-agree, outgoing-formed, ask-formed, reply-formed}
-use Rattle.meaning.specs.Settle.{most-points, most-listed}
+use Rattle.meaning.specs.CrewTable.{CrewTable, is-table, holds}
+use Rattle.meaning.specs.Clock.{Clock, row}
+use Rattle.meaning.specs.Context.{Context}
+use Rattle.meaning.specs.Object.{Contents, value, deleted, Version}
+use Rattle.meaning.specs.State.{Stored, Listed, mark, State, listed}
+use Rattle.meaning.specs.Message.{Outgoing, Ask, Reply, longest-value, contents-formed, outgoing-formed, ask-formed, reply-formed}
+use Rattle.meaning.specs.Settle.{most-listed}
 use Rattle.meaning.specs.Good.{listed-formed}
-use Rattle.laws.proofs.Facts.{VersionFacts, ContextFacts, PointFacts, point-facts, row-at}
+use Rattle.laws.proofs.Facts.{VersionFacts, ContextFacts, PointFacts, point-facts}
 use Rattle.laws.proofs.Goodness.{Good}
+use Rattle.laws.proofs.Formed.{FormedClock, formed-outgoing, formed-ask, formed-reply}
 use Rattle.layout.specs.PointBlock.{form-1, said-bytes, unsent}
 use Rattle.layout.proofs.PointBack.{SlotSized, ContextSized, PointSized}
-use Rattle.layout.proofs.ImageBack.{RowSized, ClockSized, MarksSized, EntrySized, DotsSized, HeadSized, StoredSized, AllSized, Sized}
+use Rattle.layout.proofs.ImageBack.{RowSized, ClockSized, MarksSized, EntrySized, DotsSized, StoredSized, Sized}
 use Rattle.layout.proofs.MessagesBack.{AskSized, ReplySized}
 
 -- ---- one of eight
@@ -153,43 +152,20 @@ module _ (s : State) (G : Good s) where
 
 -- ---- messages
 
-formed-clock-sized : (t : CrewTable) (sender : Controller) (k : Clock) → clock-formed t sender k ≡ true → ClockSized k
-formed-clock-sized t sender k e =
-    let bs = eqb (length k) 8 ∷ every-row (λ r. fits r && sound r) k ∷ all? (λ n. in-some-job t n || is-none (row k n)) controllers ∷ eqb (row k sender .bits) 0 ∷ [] in
-    let u : every bs ≡ true = unfold clock-formed in e in
-    clock-sized k (eqb-true (length k) 8 (clause bs u 0))
-    (λ n c. let r = row-at (λ x. fits x && sound x) k (clause bs u 1) n c in
-    (and-left (fits (row k n)) (sound (row k n)) r, and-right (fits (row k n)) (sound (row k n)) r))
-
-controller-sized : (n : Controller) → is-controller n ≡ true → n .0 < 256
-controller-sized n t = omega (arith, crew-is n t .1)
+formed-clock-sized : (k : Clock) → FormedClock k → ClockSized k
+formed-clock-sized k F = clock-sized k (F .eight) (λ n c. (F .row-fits n c, F .row-sound n c))
 
 pub outgoing-sized : (t : CrewTable) (m : Outgoing) → outgoing-formed t m ≡ true → PointSized form-1 m
-outgoing-sized t m e =
-    let bs = is-controller (m .sender) ∷ point-formed t (m .key) (m .object) ∷ covers-all (m .object .context) (m .object .versions) ∷ [] in
-    let u : every bs ≡ true = unfold outgoing-formed in e in
-    point-sized t m (controller-sized (m .sender) (clause bs u 0)) (point-facts t (m .key) (m .object) (clause bs u 1))
+outgoing-sized t m e = let F = formed-outgoing t m e in point-sized t m (omega (arith, F .sender .1)) (point-facts t (m .key) (m .object) (F .point))
 
 pub ask-sized : (t : CrewTable) (a : Ask) → ask-formed t a ≡ true → AskSized a
-ask-sized t a e =
-    let bs = is-controller (a .sender) ∷ is-controller (a .addressee) ∷ clock-formed t (a .sender) (a .clock) ∷ [] in
-    let u : every bs ≡ true = unfold ask-formed in e in
-    record {
-      small = (controller-sized (a .sender) (clause bs u 0), controller-sized (a .addressee) (clause bs u 1));
-      clock = formed-clock-sized t (a .sender) (a .clock) (clause bs u 2);
-    }
+ask-sized t a e = let F = formed-ask t a e in record { small = (omega (arith, F .sender .1), omega (arith, F .addressee .1)); clock = formed-clock-sized (a .clock) (F .clock) }
 
 pub reply-sized : (t : CrewTable) (r : Reply) → reply-formed t r ≡ true → ReplySized r
 reply-sized t r e =
-    let bs =
-    is-controller (r .sender) ∷ is-controller (r .addressee) ∷ clock-formed t (r .sender) (r .clock)
-    ∷ all? (λ p. point-formed t (p .key) (p .object)) (r .points)
-    ∷ all? (λ p. covers-all (fill-context t (p .key .job) (r .clock) (p .object .context)) (p .object .versions)) (r .points)
-    ∷ Rattle.numbers.specs.Words.ascends? Rattle.meaning.specs.State.stored-before (r .points)
-    ∷ dots-agree (Rattle.meaning.specs.State.dots-of (r .points)) (Rattle.meaning.specs.State.dots-of (r .points)) ∷ [] in
-    let u : every bs ≡ true = unfold reply-formed in e in
+    let F = formed-reply t r e in
     record {
-      small = (controller-sized (r .sender) (clause bs u 0), controller-sized (r .addressee) (clause bs u 1));
-      clock = formed-clock-sized t (r .sender) (r .clock) (clause bs u 2);
-      points = λ p m. stored-sized t p (point-facts t (p .key) (p .object) (all-in (λ q. point-formed t (q .key) (q .object)) (r .points) (clause bs u 3) m));
+      small = (omega (arith, F .sender .1), omega (arith, F .addressee .1));
+      clock = formed-clock-sized (r .clock) (F .clock);
+      points = λ p m. stored-sized t p (point-facts t (p .key) (p .object) (F .point p m));
     }
