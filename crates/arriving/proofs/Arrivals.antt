@@ -37,7 +37,7 @@ use Rattle.store.proofs.Lent.{table-part, clock-part}
 use Rattle.store.proofs.Stripped.{says}
 use Rattle.arriving.specs.declared.Tried.{Tried}
 use Rattle.arriving.specs.Tried.{tried}
-use Rattle.arriving.specs.Sent.{arrives, arriving, arriving-with}
+use Rattle.arriving.specs.Sent.{arrives, counters-arriving, arriving-with}
 use Rattle.arriving.proofs.Folding.{Folded, folded-more, fold-append}
 use Rattle.arriving.proofs.Trying.{tried-sound}
 
@@ -91,8 +91,8 @@ module _ (b : List ℕ) (small : Bytes b) (size : length b ≡ 512) (n : Control
       let is : u ≡ try-version n here t (version-at b i) = q ∙ ap (λ (x : Dot). if same-controller (x .who) n && ltb (here .0) (x .count .0) then tried t (x .count) else t) e in
       (folded-more F l u is, subst (λ (x : Tried). sound (x .row) ≡ true) (sym is) (step-sound n here t (version-at b i) high s))
 
-pub tried-versions : (n : Controller) (here : Counter) (t : Tried) (vs : List Version) → fold (try-version n here) t vs ≡ fold tried t (arriving n here vs)
-unfolding arriving
+pub tried-versions : (n : Controller) (here : Counter) (t : Tried) (vs : List Version) → fold (try-version n here) t vs ≡ fold tried t (counters-arriving n here vs)
+unfolding counters-arriving
 tried-versions n here t [] = refl
 tried-versions n here t (v ∷ vs) =
     by-test (arrives n here v)
@@ -103,11 +103,11 @@ tried-versions n here t (v ∷ vs) =
 
 -- the versions of a point are tried
 abbrev pub try-point : State → Controller → Tried → Stored → Tried
-try-point s n t p = fold tried t (arriving n (entry (local s (p .key) .context) n) (p .object .versions))
+try-point s n t p = fold tried t (counters-arriving n (entry (local s (p .key) .context) n) (p .object .versions))
 
 pub tried-points : (s : State) (n : Controller) (t : Tried) (ps : List Stored) → fold (try-point s n) t ps ≡ fold tried t (arriving-with s n ps)
 unfolding arriving-with
 tried-points s n t [] = refl
 tried-points s n t (p ∷ ps) =
     tried-points s n (try-point s n t p) ps
-    ∙ sym (fold-append tried t (arriving n (entry (local s (p .key) .context) n) (p .object .versions)) (concat-map (λ q. arriving n (entry (local s (q .key) .context) n) (q .object .versions)) ps))
+    ∙ sym (fold-append tried t (counters-arriving n (entry (local s (p .key) .context) n) (p .object .versions)) (concat-map (λ q. counters-arriving n (entry (local s (q .key) .context) n) (q .object .versions)) ps))

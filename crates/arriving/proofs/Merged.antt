@@ -37,7 +37,7 @@ use Rattle.laws.proofs.Entering.{row-each, counts, entered-row, entered-eight, 
 use Rattle.laws.proofs.Local.{LocalFacts, local-facts}
 use Rattle.laws.proofs.Settling.{Results}
 use Rattle.laws.proofs.Merging.{Carried, Clocked, no-clash, well-formed, merged-fit}
-use Rattle.arriving.specs.Sent.{arrives, arriving, arriving-with, with-arrivals}
+use Rattle.arriving.specs.Sent.{arrives, counters-arriving, arriving-with, with-arrivals}
 use Rattle.merging.proofs.Merged.{contents-same}
 
 -- a message's version that has the dot of a stored one is that one
@@ -101,7 +101,7 @@ module _ (s : State) (G : Good s) (k : Clock) (K : Clocked s k) (ps : List Store
       (counter-positive (d .version .dot .count) (R .versions (d .point) (d .point-in) .each (d .version) (d .version-in) .counter))
 
   positive-arriving : (n : Controller) → Positive (arriving-with s n ps)
-  unfolding arriving-with arriving
+  unfolding arriving-with counters-arriving
   positive-arriving n c m =
       let q = in-concat-map (λ (p : Stored). map (λ (v : Version). v .dot .count) (keep (arrives n (here n p)) (p .object .versions))) ps m in
       let u = in-map (λ (v : Version). v .dot .count) (keep (arrives n (here n (q .0))) (q .0 .object .versions)) (q .2) in
@@ -125,7 +125,7 @@ module _ (s : State) (G : Good s) (k : Clock) (K : Clocked s k) (ps : List Store
           inl (unfold in-clock in
           subst (λ (x : Counter). has (row k n) x ≡ true) count (subst (λ (m : Controller). has (row k m) (v .dot .count) ≡ true) who (K .growing (v .dot) (subst Crew (sym who) crew) t)))
       go n crew c p mp v who count (inr t) =
-          inr (unfold arriving-with arriving in
+          inr (unfold arriving-with counters-arriving in
           concat-map-in (λ (q : Stored). map (λ (w : Version). w .dot .count) (keep (arrives n (here n q)) (q .object .versions))) ps mp
           (subst (λ (x : Counter). x ∈ map (λ (w : Version). w .dot .count) (keep (arrives n (here n p)) (p .object .versions))) count
           (map-in (λ (w : Version). w .dot .count) (keep (arrives n (here n p)) (p .object .versions))
@@ -135,7 +135,7 @@ module _ (s : State) (G : Good s) (k : Clock) (K : Clocked s k) (ps : List Store
 
   -- what arrives is a result's
   to-results : (n : Controller) (c : Counter) → c ∈ arriving-with s n ps → c ∈ counts n (dots-of rs)
-  unfolding arriving-with arriving
+  unfolding arriving-with counters-arriving
   to-results n c m =
       let q = in-concat-map (λ (p : Stored). map (λ (v : Version). v .dot .count) (keep (arrives n (here n p)) (p .object .versions))) ps m in
       let p = q .0 in

@@ -30,12 +30,12 @@ abbrev pub arrives : Controller → Counter → Version → Bool
 arrives n here v = same-controller (v .dot .who) n && ltb (here .0) (v .dot .count .0)
 
 -- the counters of controller n that arrive with some versions
-unfoldable pub arriving : Controller → Counter → List Version → List Counter
-arriving n here vs = map (λ v. v .dot .count) (keep (arrives n here) vs)
+unfoldable pub counters-arriving : Controller → Counter → List Version → List Counter
+counters-arriving n here vs = map (λ v. v .dot .count) (keep (arrives n here) vs)
 
 -- and with some points
 unfoldable pub arriving-with : State → Controller → List Stored → List Counter
-arriving-with s n ps = concat-map (λ p. arriving n (entry (local s (p .key) .context) n) (p .object .versions)) ps
+arriving-with s n ps = concat-map (λ p. counters-arriving n (entry (local s (p .key) .context) n) (p .object .versions)) ps
 
 -- the clock with all of them, with no limit applied
 unfoldable pub with-arrivals : State → Clock → List Stored → Clock

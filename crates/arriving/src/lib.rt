@@ -23,7 +23,7 @@ ghost use Rattle.layout.specs.PointBlock.{form-1, decode-point};
 ghost use Rattle.layout.specs.Image.{image-length, decode, goodImage};
 ghost use Rattle.image_edits.specs.Edits.{Canonical};
 ghost use Rattle.arriving.specs.Tried.{tried, all-added};
-ghost use Rattle.arriving.specs.Sent.{points-in, Few, arriving, arriving-with, with-arrivals};
+ghost use Rattle.arriving.specs.Sent.{points-in, Few, counters-arriving, arriving-with, with-arrivals};
 
 // A row to which counters are added while they fit, and whether one was left over.
 pub struct Tried {
@@ -69,7 +69,7 @@ fn enter_version(d: Dot, n: Controller, here: Counter, t: Tried) -> Tried
 // The counters of controller n that arrive with the versions of b, where `here` is the local entry for n.
 fn enter_point(b: &[u8], n: Controller, here: Counter, t: Tried) -> Tried
     requires { ⌜ (length (now b) ≡ 512) × (field (now b) 5 1 ≤ 8) × (sound (t .row) ≡ true) ⌝ }
-    ensures { λ r. ⌜ r ≡ fold tried t (arriving n here (decode-point form-1 (now (b .entry)) .object .versions)) ⌝ }
+    ensures { λ r. ⌜ r ≡ fold tried t (counters-arriving n here (decode-point form-1 (now (b .entry)) .object .versions)) ⌝ }
 {
     let count = record::version_count(b) as usize;
     let mut last = t;

@@ -1,7 +1,7 @@
 -- What an accepted reply has passed, and what is then made of a repair. Assumes nothing.
 use Prim.Native.Nat.{ℕ}
-use mathlib.Core.Path.{_≡_, refl, _∙_}
-use mathlib.Core.Bool.{Bool, true, false, _&&_, _||_, not}
+use mathlib.Core.Path.{_≡_, _∙_}
+use mathlib.Core.Bool.{Bool, true, false, _&&_, _||_}
 use mathlib.Core.List.{List}
 use Rattle.numbers.specs.Words.{all?, some?, map}
 use Rattle.numbers.specs.Numbers.{same-controller}
@@ -9,13 +9,13 @@ use Rattle.numbers.proofs.Tests.{and-left, and-right, or-false}
 use Rattle.refusal.specs.declared.Verdict.the-variants.{Accepted, Refused}
 use Rattle.refusal.specs.declared.Refusal.{Refusal}
 use Rattle.refusal.specs.declared.Refusal.the-variants.{WrongCheck, IllFormed, OutOfRange, NotPeer, HistoryLost, DotClash}
-use Rattle.refusal.specs.Refusal.{Answer, refused, accepted, refuse_when_else_, _>>=_, verdict-of}
+use Rattle.refusal.specs.Refusal.{Answer, refused, accepted, _>>=_, verdict-of}
 use Rattle.meaning.specs.Clock.{row, with-row}
 use Rattle.meaning.specs.State.{State}
 use Rattle.meaning.specs.Settle.{settle}
 use Rattle.meaning.specs.Message.{Reply, reply-formed}
 use Rattle.meaning.specs.Exchange.{both-hold, other-peer, ahead-of-us, row-ahead-of-us, clashes, tidied, mended, repair}
-use Rattle.laws.proofs.Answers.{passes, passes-not, then, by-refusal, by-none, accepted-with}
+use Rattle.laws.proofs.Answers.{passes, passes-not, then, by-refusal, by-none, accepted-with, message-rows}
 use Rattle.layout.specs.Messages.{checks-right, decode-reply, laid-out-reply}
 use Rattle.layout.specs.Calls.{with-message}
 use Rattle.hearing.specs.Heard.{peers-judged, reply-judged}
@@ -78,28 +78,13 @@ module _ (message : List ℕ) (s : State) where
 
   -- ---- whatever is made of the state
 
-  same-rows : {A B : Type 0} (c l f h p a d : Bool) (x : Answer A) (g : A → Answer B)
-      → (refuse WrongCheck when not c else refuse IllFormed when not l else
-      ((refuse IllFormed when not f else refuse OutOfRange when not h else refuse NotPeer when not p else refuse HistoryLost when a else refuse DotClash when d else x) >>= g))
-      ≡ then (refuse WrongCheck when not c else refuse IllFormed when not l else
-      refuse IllFormed when not f else refuse OutOfRange when not h else refuse NotPeer when not p else refuse HistoryLost when a else refuse DotClash when d else accepted true) (x >>= g)
-  unfolding refuse_when_else_ then
-  same-rows false l f h p a d x g = refl
-  same-rows true false f h p a d x g = refl
-  same-rows true true false h p a d x g = refl
-  same-rows true true true false p a d x g = refl
-  same-rows true true true true false a d x g = refl
-  same-rows true true true true true true d x g = refl
-  same-rows true true true true true false true x g = refl
-  same-rows true true true true true false false x g = refl
-
   abbrev result : Answer State
   result = settle s (with-row (s .clock) (q .sender) (row (q .clock) (q .sender))) (map (mended s q) (q .points)) >>= λ after. accepted (tidied after q)
 
   module _ {B : Type 0} (g : State → Answer B) where
     any-state : with-message message (laid-out-reply message) (repair s q >>= g) ≡ then (reply-judged message s true) (result >>= g)
     unfolding reply-judged with-message peers-judged repair
-    any-state = same-rows (checks-right message) (laid-out-reply message) (reply-formed (s .table) q) jobs-held to-us lost clashing result g
+    any-state = message-rows (checks-right message) (laid-out-reply message) (reply-formed (s .table) q) jobs-held to-us lost clashing result g
 
     pub judged-refused : (r : Refusal) → verdict-of (reply-judged message s true) ≡ Refused r → with-message message (laid-out-reply message) (repair s (decode-reply message) >>= g) ≡ refused r
     judged-refused r e = any-state ∙ by-refusal (result >>= g) (reply-judged message s true) r e

@@ -1,33 +1,34 @@
 -- The points of a reply that passed the refusals 4 to 10, filled with its rows: each may be taken. Assumes nothing.
 use Prim.Native.Nat.{ℕ, _/_, _≤_}
 use mathlib.Core.Path.{_≡_, sym, ap, subst}
-use mathlib.Core.Bool.{Bool, true, false, _&&_, _||_, not}
-use mathlib.Core.List.{List, [], _∷_}
+use mathlib.Core.Bool.{Bool, true, false, _&&_, not}
+use mathlib.Core.List.{List}
 use native.Mathlib.Omega.{arith}
 use native.Mathlib.Nat.{le-trans}
-use lib.ListN.{length, getD}
-use lib.Dec.{ltb, eqb}
+use lib.ListN.{length}
+use lib.Dec.{ltb}
 use borrow.Author.Tests.{ltb-false, le-ltb}
 use Rattle.numbers.specs.declared.Controller.{Controller}
-use Rattle.numbers.specs.Words.{all?, some?, ascends?}
-use Rattle.numbers.specs.Numbers.{last-counter, is-controller, same-controller, controllers}
-use Rattle.numbers.proofs.Tests.{and-left, and-right, or-false, _∈_}
-use Rattle.numbers.proofs.Lists.{none-in, all-in, clause, passed, _and-also_, all-passed}
-use Rattle.numbers.proofs.Controllers.{Crew, crew-is}
+use Rattle.numbers.specs.Words.{all?, some?}
+use Rattle.numbers.specs.Numbers.{last-counter, same-controller, controllers}
+use Rattle.numbers.proofs.Tests.{and-left, or-false, _∈_}
+use Rattle.numbers.proofs.Lists.{none-in, all-in, passed, _and-also_, all-passed}
+use Rattle.numbers.proofs.Controllers.{Crew}
 use Rattle.block.specs.Block.{block-at}
 use Rattle.block.proofs.Arrays.{upto-in}
-use Rattle.row.specs.Row.{highest, fits, sound}
+use Rattle.row.specs.Row.{highest}
 use Rattle.row.proofs.Highest.{base-highest, sound-base}
-use Rattle.meaning.specs.CrewTable.{holds, in-some-job}
-use Rattle.meaning.specs.Clock.{row, every-row}
+use Rattle.meaning.specs.CrewTable.{holds}
+use Rattle.meaning.specs.Clock.{row}
 use Rattle.meaning.specs.Context.{entry, fill-context}
 use Rattle.meaning.specs.Object.{Version, fill}
-use Rattle.meaning.specs.State.{Stored, stored-before, State, own-base, dots-of}
-use Rattle.meaning.specs.Message.{Reply, point-formed, covers-all, is-none, clock-formed, dots-agree, reply-formed}
+use Rattle.meaning.specs.State.{Stored, State, own-base}
+use Rattle.meaning.specs.Message.{Reply, point-formed, covers-all, reply-formed}
 use Rattle.meaning.specs.Exchange.{both-hold, ahead-of-us, row-ahead-of-us, clashes}
 use Rattle.laws.proofs.ContextLaws.{fill-holder}
-use Rattle.laws.proofs.Facts.{point-facts, point-of-facts, row-at}
+use Rattle.laws.proofs.Facts.{point-facts, point-of-facts}
 use Rattle.laws.proofs.Local.{fill-context-facts}
+use Rattle.laws.proofs.Formed.{FormedReply, formed-reply}
 use Rattle.layout.specs.PointBlock.{form-1, decode-stored}
 use Rattle.record.proofs.Questions.{formed-crewed}
 use Rattle.arriving.specs.Sent.{points-in}
@@ -37,72 +38,37 @@ use Rattle.weighing.specs.Weighed.{takable}
 -- ---- what is formed in it
 
 module _ (s : State) (r : Reply) (formed : reply-formed (s .table) r ≡ true) where
-  abbrev tests : List Bool
-  tests =
-      is-controller (r .sender) ∷ is-controller (r .addressee) ∷ clock-formed (s .table) (r .sender) (r .clock)
-      ∷ all? (λ p. point-formed (s .table) (p .key) (p .object)) (r .points)
-      ∷ all? (λ p. covers-all (fill-context (s .table) (p .key .job) (r .clock) (p .object .context)) (p .object .versions)) (r .points)
-      ∷ ascends? stored-before (r .points) ∷ dots-agree (dots-of (r .points)) (dots-of (r .points)) ∷ []
+  F : FormedReply (s .table) r
+  F = formed-reply (s .table) r formed
 
-  test : (i : ℕ) → getD tests i true ≡ true
-  unfolding reply-formed
-  test i = clause tests formed i
-
-  pub reply-sender : Crew (r .sender)
-  reply-sender = crew-is (r .sender) (test 0)
-
-  pub reply-addressee : Crew (r .addressee)
-  reply-addressee = crew-is (r .addressee) (test 1)
-
-  abbrev clock-tests : List Bool
-  clock-tests =
-      eqb (length (r .clock)) 8 ∷ every-row (λ x. fits x && sound x) (r .clock) ∷ all? (λ m. in-some-job (s .table) m || is-none (row (r .clock) m)) controllers
-      ∷ eqb (row (r .clock) (r .sender) .bits) 0 ∷ []
-
-  row-passed : (n : Controller) → Crew n → (fits (row (r .clock) n) && sound (row (r .clock) n)) ≡ true
-  unfolding clock-formed
-  row-passed n c = row-at (λ x. fits x && sound x) (r .clock) (clause clock-tests (test 2) 1) n c
-
-  pub reply-row-fits : (n : Controller) → Crew n → fits (row (r .clock) n) ≡ true
-  reply-row-fits n c = and-left (fits (row (r .clock) n)) (sound (row (r .clock) n)) (row-passed n c)
-
-  pub reply-row-sound : (n : Controller) → Crew n → sound (row (r .clock) n) ≡ true
-  reply-row-sound n c = and-right (fits (row (r .clock) n)) (sound (row (r .clock) n)) (row-passed n c)
-
-  pub reply-row-low : (n : Controller) → Crew n → row (r .clock) n .base ≤ last-counter
-  reply-row-low n c = sound-base (row (r .clock) n) (reply-row-sound n c)
-
-  pub point-as-sent : (p : Stored) → p ∈ r .points → point-formed (s .table) (p .key) (p .object) ≡ true
-  point-as-sent p m = all-in (λ q. point-formed (s .table) (q .key) (q .object)) (r .points) (test 3) m
-
-  pub points-ascend : ascends? stored-before (r .points) ≡ true
-  points-ascend = test 5
+  row-low : (n : Controller) → Crew n → row (r .clock) n .base ≤ last-counter
+  row-low n c = sound-base (row (r .clock) n) (F .clock .row-sound n c)
 
   -- the versions of each block of the run in which its points stand are of controllers
   pub crewed-points : (run : List ℕ) → r .points ≡ points-in run → Crewed run
   crewed-points run same i l =
       let p = decode-stored form-1 (block-at run i) in
       formed-crewed (s .table) (p .key) (p .object)
-      (point-as-sent p (subst (λ (ps : List Stored). p ∈ ps) (sym same) (upto-in (length run / 512) (λ j. decode-stored form-1 (block-at run j)) i l)))
+      (F .point p (subst (λ (ps : List Stored). p ∈ ps) (sym same) (upto-in (length run / 512) (λ j. decode-stored form-1 (block-at run j)) i l)))
 
   -- ---- a point of it, filled
 
   pub filled-formed : (p : Stored) → p ∈ r .points → point-formed (s .table) (p .key) (fill (s .table) (p .key .job) (r .clock) (p .object)) ≡ true
   unfolding fill
   filled-formed p m =
-      let P = point-facts (s .table) (p .key) (p .object) (point-as-sent p m) in
+      let P = point-facts (s .table) (p .key) (p .object) (F .point p m) in
       point-of-facts (s .table) (p .key) (record { versions = p .object .versions; context = fill-context (s .table) (p .key .job) (r .clock) (p .object .context) })
       (record {
         key-good = P .key-good;
         few = P .few;
         versions = P .versions;
-        context = fill-context-facts (s .table) (p .key .job) (r .clock) (p .object .context) reply-row-low (P .context);
+        context = fill-context-facts (s .table) (p .key .job) (r .clock) (p .object .context) row-low (P .context);
       })
 
   pub filled-covered : (p : Stored) → p ∈ r .points
       → covers-all (fill (s .table) (p .key .job) (r .clock) (p .object) .context) (fill (s .table) (p .key .job) (r .clock) (p .object) .versions) ≡ true
   unfolding fill
-  filled-covered p m = all-in (λ q. covers-all (fill-context (s .table) (q .key .job) (r .clock) (q .object .context)) (q .object .versions)) (r .points) (test 4) m
+  filled-covered p m = F .covered p m
 
   -- ---- with the refusals 5 to 10
 

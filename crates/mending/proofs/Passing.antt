@@ -55,7 +55,7 @@ one-put s c true rs r = ap (with-points s) (fold-append (put c) (s .points) rs (
 one-put s c false rs r = refl
 
 module _ (s : State) (k : Clock) (run : List ℕ) where
-  results-length : length (results s k run) ≡ length run / 512
+  pub results-length : length (results s k run) ≡ length run / 512
   results-length = map-length (mend s k) (points-in run) ∙ upto-length (length run / 512) (point-of run)
 
   pub result-at : (i : ℕ) → i < length run / 512 → (d : Stored) → getD (results s k run) i d ≡ mend s k (point-of run i)

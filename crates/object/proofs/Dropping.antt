@@ -1,5 +1,5 @@
--- A loop over a point's versions, from the last to the first, that takes out those that do not pass a test. Assumes nothing.
-use Prim.Native.Nat.{ℕ, suc, _+_, _-_, _≤_, _<_}
+-- Those of a list that do not pass a test, taken out from the last to the first; and a point's versions so. Assumes nothing.
+use Prim.Native.Nat.{ℕ, suc, _-_, _≤_, _<_}
 use mathlib.Core.Path.{_≡_, ap, ap₂, sym, _∙_, subst}
 use mathlib.Core.Bool.{Bool, true, false}
 use mathlib.Core.List.{List, [], _∷_, _++_, append-assoc, append-nil}
@@ -20,23 +20,26 @@ use Rattle.record_edits.proofs.Edits.{count-is, few-versions}
 
 module _ {A : Type 0} (f : A → Bool) (xs : List A) (d : A) where
   -- those from the i-th on are tested, and those that failed are gone
-  abbrev tested : ℕ → List A
+  abbrev pub tested : ℕ → List A
   tested i = take i xs ++ keep f (drop i xs)
 
-  tested-none : tested (length xs) ≡ xs
+  pub tested-none : tested (length xs) ≡ xs
   tested-none =
       ap (λ (l : List A). take (length xs) xs ++ keep f l) (drop-of-length-le xs {i = length xs} (omega arith)) ∙ append-nil (take (length xs) xs) ∙ take-all (length xs) xs (omega arith)
 
-  tested-at : (i : ℕ) → i < length xs → getD (tested (suc i)) i d ≡ getD xs i d
+  pub tested-length : (i : ℕ) → i < length xs → i < length (tested (suc i))
+  tested-length i l = omega (arith, length-append (take (suc i) xs) (keep f (drop (suc i) xs)), length-take (suc i) xs)
+
+  pub tested-at : (i : ℕ) → i < length xs → getD (tested (suc i)) i d ≡ getD xs i d
   tested-at i l =
       lib.ListN.List·getD-append (take (suc i) xs) (keep f (drop (suc i) xs)) d i (omega (arith, length-take (suc i) xs)) ∙ getD-take (suc i) xs i d (omega arith)
 
-  passes : (i : ℕ) → i < length xs → f (getD xs i d) ≡ true → tested (suc i) ≡ tested i
+  pub passes : (i : ℕ) → i < length xs → f (getD xs i d) ≡ true → tested (suc i) ≡ tested i
   passes i l t =
       ap (λ (u : List A). u ++ keep f (drop (suc i) xs)) (take-suc xs i d l) ∙ append-assoc (take i xs) (getD xs i d ∷ []) (keep f (drop (suc i) xs))
       ∙ ap (λ (u : List A). take i xs ++ u) (sym (ap (keep f) (drop-cons xs i d l) ∙ ap (λ (b : Bool). cons-if b (getD xs i d) (keep f (drop (suc i) xs))) t))
 
-  fails : (i : ℕ) → i < length xs → f (getD xs i d) ≡ false → remove-at (tested (suc i)) i ≡ tested i
+  pub fails : (i : ℕ) → i < length xs → f (getD xs i d) ≡ false → remove-at (tested (suc i)) i ≡ tested i
   fails i l t =
       ap (λ (u : List A). remove-at (u ++ keep f (drop (suc i) xs)) i) (take-suc xs i d l)
       ∙ ap (λ (u : List A). remove-at u i) (append-assoc (take i xs) (getD xs i d ∷ []) (keep f (drop (suc i) xs)))
@@ -89,7 +92,7 @@ module _ (w : Written) (f : Version → Bool) where
     versions-now = ap (λ (v : Written). v .point .object .versions) (D .is) ∙ ap (λ (k : ℕ). take k vs ++ keep f (drop k vs)) here
 
     pub dropping-inside : i - 1 < length (decode-point form-1 b .object .versions)
-    dropping-inside = omega (arith, ap length versions-now, length-append (take (suc j) vs) (keep f (drop (suc j) vs)), length-take (suc j) vs, D .left)
+    dropping-inside = omega (arith, ap length versions-now, tested-length f vs (version-at b j) j (omega (arith, D .left)))
 
     pub dropping-small : i - 1 < 8
     dropping-small = omega (arith, dropping-inside, few-versions b (D .bytes) (D .size) (D .laid))

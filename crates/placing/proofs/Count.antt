@@ -7,12 +7,12 @@ use native.Mathlib.Omega.{arith}
 use lib.ListN.{length, length-append}
 use lib.Seq.{take-append-seam}
 use Rattle.numbers.specs.declared.Key.{Key}
-use Rattle.numbers.specs.Words.{cons-if, keep, all?, ascends?, place, fold}
+use Rattle.numbers.specs.Words.{keep, all?, ascends?, place, fold}
 use Rattle.numbers.specs.Key.{same-key, key-before}
-use Rattle.numbers.proofs.Tests.{by-test, never, and-left, not-true, _∈_, here, there}
-use Rattle.numbers.proofs.Lists.{in-left, in-keep, in-all, keep-none}
+use Rattle.numbers.proofs.Tests.{by-test, never, and-left, not-true, _∈_, there}
+use Rattle.numbers.proofs.Lists.{in-left, in-keep, in-all, keep-none, keep-same}
 use Rattle.numbers.proofs.Orders.{Ascends, ascends-first, ascends-rest, keep-ascends, take-ascends, one-place}
-use Rattle.numbers.proofs.Dots.{key-order, same-keys, key-itself, keys-tied, tied-keys}
+use Rattle.numbers.proofs.Dots.{key-order, same-keys, key-itself, keys-tied, tied-keys, other-way, before-other}
 use Rattle.block.proofs.Placed.{keep-all}
 use Rattle.meaning.specs.Clock.{Clock}
 use Rattle.meaning.specs.Object.{strip, gone}
@@ -22,7 +22,7 @@ use Rattle.laws.proofs.Putting.{put-all-ascends}
 use Rattle.image.proofs.Placing.{without-before}
 use Rattle.store.specs.HasRecord.{has-record}
 use Rattle.placing.specs.Placed.{comes, goes-away}
-use Rattle.placing.proofs.Order.{None-of, first-apart, other-way, before-other, put-ascends, other-recorded, others-recorded, two-passes}
+use Rattle.placing.proofs.Order.{None-of, first-apart, put-ascends, other-recorded, others-recorded, two-passes}
 
 -- 1 where the test passes
 abbrev once : Bool → ℕ
@@ -33,12 +33,6 @@ once false = 0
 
 keep-count : {A : Type 0} (f : A → Bool) (x : A) (xs : List A) → length (keep f (x ∷ xs)) ≡ once (f x) + length (keep f xs)
 keep-count f x xs = by-test (f x) (λ t. rw t (omega arith)) (λ t. rw t (omega arith))
-
--- tests that say the same of each keep the same
-keep-same : {A : Type 0} (f g : A → Bool) (xs : List A) → ((x : A) → x ∈ xs → f x ≡ g x) → keep f xs ≡ keep g xs
-keep-same f g [] h = refl
-keep-same f g (x ∷ xs) h =
-    ap (λ (b : Bool). cons-if b x (keep f xs)) (h x (here refl)) ∙ ap (cons-if (g x) x) (keep-same f g xs (λ y m. h y (there m)))
 
 front-ascends : (xs ys : List Stored) → Ascends stored-before (xs ++ ys) → Ascends stored-before xs
 front-ascends xs ys t = subst (Ascends stored-before) (take-append-seam xs ys) (take-ascends stored-before (length xs) (xs ++ ys) t)

@@ -5,11 +5,11 @@ use mathlib.Core.Bool.{Bool, true, false, _||_, not}
 use mathlib.Core.List.{List, [], _∷_, List·Memᴰ·not-nil, List·Memᴰ·cases-cons, Memᴰ·cast}
 use Rattle.numbers.specs.declared.Key.{Key}
 use Rattle.numbers.specs.Words.{if_then_else_, keep, ascends?, place, fold}
-use Rattle.numbers.specs.Key.{same-key, key-before}
+use Rattle.numbers.specs.Key.{same-key}
 use Rattle.numbers.proofs.Tests.{by-test, never, _∈_, here, there}
 use Rattle.numbers.proofs.Lists.{in-keep, keep-in, in-all, none-in, place-here, place-there}
 use Rattle.numbers.proofs.Orders.{ascends-first, ascends-rest, ascending-same}
-use Rattle.numbers.proofs.Dots.{key-order, same-keys, key-itself, tied-keys}
+use Rattle.numbers.proofs.Dots.{same-keys, key-itself, tied-keys, other-way, before-other}
 use Rattle.block.proofs.Placed.{keep-all}
 use Rattle.meaning.specs.Clock.{Clock}
 use Rattle.meaning.specs.Object.{Object, strip, gone, fill}
@@ -18,16 +18,6 @@ use Rattle.meaning.specs.Settle.{without, stripped, put}
 use Rattle.laws.proofs.Putting.{stored-order, From, stays, comes, put-all-ascends, in-put-all}
 use Rattle.image_edits.specs.Edits.{with-points}
 use Rattle.store.specs.HasRecord.{has-record}
-
--- ---- keys
-
--- a key that is not another is not the other's
-pub other-way : (a b : Key) → same-key a b ≡ false → same-key b a ≡ false
-other-way a b t = by-test (same-key b a) (λ u. never (subst (λ (x : Key). same-key x b ≡ true) (same-keys b a u) (key-itself b)) t) (λ u. u)
-
--- a key that comes before another is another
-pub before-other : (a b : Key) → key-before a b ≡ true → same-key a b ≡ false
-before-other a b t = by-test (same-key a b) (λ u. never (subst (λ (x : Key). key-before x b ≡ true) (same-keys a b u) t) (key-order .itself b)) (λ u. u)
 
 -- none of these results is the point's
 abbrev pub None-of : Key → List Stored → Type 0

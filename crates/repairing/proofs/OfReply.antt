@@ -26,6 +26,7 @@ use Rattle.laws.proofs.Merging.{Clocked, Carried}
 use Rattle.laws.proofs.StaysGood.{other, united-clock, carried, agree}
 use Rattle.row.specs.Row.{sound}
 use Rattle.block.specs.Fields.{cut}
+use Rattle.laws.proofs.Formed.{formed-reply}
 use Rattle.layout.specs.Clocks.{decode-clock}
 use Rattle.layout.specs.Messages.{decode-ask}
 use Rattle.layout.specs.PointBlock.{form-1, decode-stored}
@@ -34,7 +35,7 @@ use Rattle.arriving.proofs.Merged.{entered-is}
 use Rattle.noting.specs.Noted.{noted}
 use Rattle.joining.proofs.Noted.{own-kept, foreign-is}
 use Rattle.hearing.specs.Heard.{AllLaid, reply-in, peers-judged}
-use Rattle.hearing.proofs.Filled.{reply-sender, reply-row-sound, points-ascend, filled-takable}
+use Rattle.hearing.proofs.Filled.{filled-takable}
 use Rattle.mending.specs.Mended.{results}
 use Rattle.tallying.specs.Tallied.{AllReady}
 use Rattle.repairing.specs.Repaired.{united, outcome, clock-after, Heard}
@@ -61,7 +62,7 @@ module _ (s : State) (G : Good s) (q : Reply) (h : Heard s q) where
   P = passed s q (h .1)
 
   pub sender-crew : Crew (q .sender)
-  sender-crew = reply-sender s q (h .0)
+  sender-crew = formed-reply (s .table) q (h .0) .sender
 
   pub sender-other : same-controller (q .sender) (s .own) ≡ false
   sender-other = other s q G (h .0) (P .held) (P .peer) (P .behind) (P .free)
@@ -90,7 +91,7 @@ module _ (s : State) (G : Good s) (q : Reply) (h : Heard s q) where
   -- results have their points' keys, so they ascend as these do
   pub in-order : ascends? stored-before (outcome s q) ≡ true
   unfolding mended
-  in-order = map-ascends stored-before stored-before (mended s q) (λ x y t. t) (q .points) (points-ascend s q (h .0))
+  in-order = map-ascends stored-before stored-before (mended s q) (λ x y t. t) (q .points) (formed-reply (s .table) q (h .0) .ascend)
 
 -- the results as the code takes them from a run of blocks
 module _ (s : State) (G : Good s) (head run : List ℕ) (h : Heard s (reply-in head run)) where
@@ -120,7 +121,7 @@ module _ (s : State) (G : Good s) (head run : List ℕ) (h : Heard s (reply-in h
   -- the sender's row about itself, as it is lent
   pub sender-sound : (n : Controller) → n ≡ reply-in head run .sender → sound (row (decode-clock (cut head 8 96)) n) ≡ true
   unfolding decode-ask
-  sender-sound n e = subst (λ (m : Controller). sound (row (r .clock) m) ≡ true) (sym e) (reply-row-sound s r (h .0) (r .sender) (reply-sender s r (h .0)))
+  sender-sound n e = subst (λ (m : Controller). sound (row (r .clock) m) ≡ true) (sym e) (let F = formed-reply (s .table) r (h .0) in F .clock .row-sound (r .sender) (F .sender))
 
   pub rows-are : (n : Controller) → n ≡ reply-in head run .sender → with-arrivals s (with-row (s .clock) n (row (decode-clock (cut head 8 96)) n)) (points-in run) ≡ clock-after s (reply-in head run)
   unfolding decode-ask

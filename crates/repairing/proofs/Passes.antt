@@ -1,5 +1,5 @@
 -- The two passes of a repair over the reply's points: first those that need no new place, then those that come. Assumes nothing.
-use Prim.Native.Nat.{ℕ, _+_, _/_, _≤_, _<_}
+use Prim.Native.Nat.{ℕ, _/_, _≤_, _<_}
 use mathlib.Core.Path.{_≡_, refl, ap, sym, _∙_, subst}
 use mathlib.Core.Bool.{Bool, true, false, not}
 use mathlib.Core.List.{List, [], _∷_, _++_}
@@ -15,7 +15,7 @@ use Rattle.numbers.proofs.Dots.{same-keys, key-order}
 use Rattle.numbers.proofs.Orders.{ascends-first, ascends-rest, ascends-cons, one-place, map-ascends}
 use Rattle.block.specs.Fields.{upto}
 use Rattle.block.specs.Block.{block-at}
-use Rattle.block.proofs.Arrays.{upto-at, upto-in}
+use Rattle.block.proofs.Arrays.{upto-at, upto-in, map-upto}
 use Rattle.meaning.specs.Clock.{Clock}
 use Rattle.meaning.specs.Object.{Object, merge}
 use Rattle.meaning.specs.State.{Stored, Listed, stored-before, State, local}
@@ -38,7 +38,7 @@ use Rattle.mending.specs.Mended.{filled, mend, results, Joinable, AllJoinable, 
 use Rattle.mending.proofs.OfPoint.{theirs-filled, result-mended}
 use Rattle.mending.proofs.Marked.{marked-no, marked-prefix}
 use Rattle.tallying.specs.Tallied.{mark, Ready, AllReady}
-use Rattle.tallying.proofs.Tally.{map-upto, result-at, results-are}
+use Rattle.tallying.proofs.Tally.{result-at, results-are}
 
 -- what is ready and has few versions in the end can be merged
 pub joinable : (s : State) → Good s → (k : Clock) (b : List ℕ) → Ready s k b → length (mend s k (decode-stored form-1 b) .object .versions) ≤ most-versions → Joinable s k b

@@ -11,11 +11,11 @@ use lib.Seq.{drop-cons}
 use borrow.Author.Tests.{leb-true}
 use Rattle.numbers.specs.declared.Controller.{Controller}
 use Rattle.numbers.specs.declared.Key.{Key}
-use Rattle.numbers.specs.Words.{if_then_else_, cons-if, keep}
+use Rattle.numbers.specs.Words.{if_then_else_, keep}
 use Rattle.numbers.specs.Numbers.{Crew, is-controller, is-counter, is-job, is-point, same-controller}
 use Rattle.numbers.specs.Key.{is-key}
-use Rattle.numbers.proofs.Tests.{by-test, never, and-left, and-right, and-both, or-inr, _∈_, here, there}
-use Rattle.numbers.proofs.Lists.{all-in, in-all, in-left, in-right, clause}
+use Rattle.numbers.proofs.Tests.{by-test, never, and-left, and-right, and-both, or-inr, _∈_}
+use Rattle.numbers.proofs.Lists.{all-in, in-all, in-left, in-right, clause, keep-same}
 use Rattle.numbers.proofs.Controllers.{crew-is}
 use Rattle.block.specs.Fields.{cut, upto}
 use Rattle.block.proofs.Arrays.{upto-length, upto-at}
@@ -101,11 +101,6 @@ module _ (s : State) (a : Ask) where
       short true false true false h x y z = refl
       short true false false m h x y z = never z refl
       short false q r m h x y z = never x refl
-
-keep-same : {A : Type 0} (f g : A → Bool) (xs : List A) → ((x : A) → x ∈ xs → f x ≡ g x) → keep f xs ≡ keep g xs
-keep-same f g [] h = refl
-keep-same f g (x ∷ xs) h =
-    ap (λ (b : Bool). cons-if b x (keep f xs)) (h x (here refl)) ∙ ap (cons-if (g x) x) (keep-same f g xs (λ y m. h y (there m)))
 
 pub lacking-is : (s : State) (a : Ask) → Good s → lacking s a ≡ keep (lacks (s .table) (a .sender) (a .clock)) (listed s)
 unfolding lacking

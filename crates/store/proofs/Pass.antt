@@ -1,5 +1,5 @@
 -- Every stored point stripped: what the pass leaves, said record by record. Assumes nothing.
-use Prim.Native.Nat.{ℕ, suc, _+_, _-_, _<_}
+use Prim.Native.Nat.{ℕ, suc, _<_}
 use mathlib.Core.Path.{_≡_, refl, ap, ap₂, sym, _∙_, subst}
 use mathlib.Core.Logic.{⊎-elim}
 use mathlib.Core.Bool.{Bool, true, false, not}
@@ -10,9 +10,9 @@ use lib.Seq.{take-all, take-suc, drop-cons, take-at, drop-at}
 use Rattle.numbers.specs.declared.Key.{Key}
 use Rattle.numbers.specs.Words.{if_then_else_, cons-if, keep, all?, ascends?, place, map, fold}
 use Rattle.numbers.specs.Key.{same-key, key-before}
-use Rattle.numbers.proofs.Tests.{by-test, never, and-left, and-right, _∈_, here, there}
+use Rattle.numbers.proofs.Tests.{by-test, and-left, and-right, _∈_, here, there}
 use Rattle.numbers.proofs.Lists.{all-in}
-use Rattle.numbers.proofs.Dots.{key-order, same-keys, key-itself}
+use Rattle.numbers.proofs.Dots.{key-order, key-itself, before-other, other-before}
 use Rattle.block.specs.Fields.{put-at, remove-at}
 use Rattle.block.proofs.Arrays.{in-append}
 use Rattle.meaning.specs.Clock.{Clock}
@@ -37,23 +37,17 @@ module _ (k : Clock) where
   place-past [] ys x h = refl
   place-past (d ∷ ds) ys x h = ap (λ (b : Bool). if b then (d ∷ place stored-before x (ds ++ ys)) else (if stored-before x d then (x ∷ d ∷ (ds ++ ys)) else (x ∷ (ds ++ ys)))) (h d (here refl)) ∙ ap (λ (l : List Stored). d ∷ l) (place-past ds ys x (λ e m. h e (there m)))
 
-  other : (a b : Key) → key-before a b ≡ true → same-key b a ≡ false
-  other a b t = by-test (same-key b a) (λ u. never (subst (λ (c : Key). key-before a c ≡ true) (same-keys b a u) t) (key-order .itself a)) (λ u. u)
-
-  other′ : (a b : Key) → key-before a b ≡ true → same-key a b ≡ false
-  other′ a b t = by-test (same-key a b) (λ u. never (subst (λ (c : Key). key-before c b ≡ true) (same-keys a b u) t) (key-order .itself b)) (λ u. u)
-
   without-past : (ds ys : List Stored) (x : Key) → ((d : Stored) → d ∈ ds → key-before (d .key) x ≡ true) → without x (ds ++ ys) ≡ ds ++ without x ys
   unfolding without
   without-past [] ys x h = refl
   without-past (d ∷ ds) ys x h =
-      ap (λ (b : Bool). cons-if (not b) d (keep (λ p. not (same-key x (p .key))) (ds ++ ys))) (other (d .key) x (h d (here refl))) ∙ ap (λ (l : List Stored). d ∷ l) (without-past ds ys x (λ e m. h e (there m)))
+      ap (λ (b : Bool). cons-if (not b) d (keep (λ p. not (same-key x (p .key))) (ds ++ ys))) (other-before (d .key) x (h d (here refl))) ∙ ap (λ (l : List Stored). d ∷ l) (without-past ds ys x (λ e m. h e (there m)))
 
   none-without : (ys : List Stored) (x : Key) → ((y : Stored) → y ∈ ys → key-before x (y .key) ≡ true) → without x ys ≡ ys
   unfolding without
   none-without [] x h = refl
   none-without (y ∷ ys) x h =
-      ap (λ (b : Bool). cons-if (not b) y (keep (λ p. not (same-key x (p .key))) ys)) (other′ x (y .key) (h y (here refl))) ∙ ap (λ (l : List Stored). y ∷ l) (none-without ys x (λ e m. h e (there m)))
+      ap (λ (b : Bool). cons-if (not b) y (keep (λ p. not (same-key x (p .key))) ys)) (before-other x (y .key) (h y (here refl))) ∙ ap (λ (l : List Stored). y ∷ l) (none-without ys x (λ e m. h e (there m)))
 
   without-first : (r : Stored) (rs : List Stored) → ((y : Stored) → y ∈ rs → key-before (r .key) (y .key) ≡ true) → without (r .key) (r ∷ rs) ≡ rs
   unfolding without

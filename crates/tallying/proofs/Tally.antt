@@ -1,5 +1,5 @@
 -- The results of a repair, counted one after the other. Assumes nothing.
-use Prim.Native.Nat.{ℕ, zero, suc, _+_, _/_, _≤_, _<_}
+use Prim.Native.Nat.{ℕ, _+_, _/_, _≤_, _<_}
 use mathlib.Core.Path.{_≡_, refl, ap, sym, _∙_}
 use mathlib.Core.Bool.{Bool, true, false, _||_}
 use mathlib.Core.List.{List, [], _∷_}
@@ -12,13 +12,14 @@ use Rattle.numbers.proofs.Tests.{by-test}
 use Rattle.numbers.proofs.Lists.{map-length}
 use Rattle.block.specs.Fields.{upto}
 use Rattle.block.specs.Block.{block-at}
-use Rattle.block.proofs.Arrays.{upto-length, upto-at}
+use Rattle.block.proofs.Arrays.{upto-at, map-upto}
 use Rattle.meaning.specs.Clock.{Clock}
 use Rattle.meaning.specs.State.{Stored, State}
 use Rattle.layout.specs.PointBlock.{form-1, decode-stored}
 use Rattle.placing.specs.Placed.{comes, goes-away}
 use Rattle.arriving.proofs.Folding.{Folded, none-folded, folded-more, folded-all}
 use Rattle.mending.specs.Mended.{mend, results}
+use Rattle.mending.proofs.Passing.{results-length}
 use Rattle.tallying.specs.Tallied.{mark, too-many, Weighed, AllWeighed}
 
 -- ---- any list
@@ -46,10 +47,6 @@ module _ {A : Type 0} (f : A → Bool) where
   all-kept : (xs : List A) → fold (λ m x. m + mark (f x)) 0 xs ≡ length (keep f xs)
   all-kept xs = omega (arith, fold-kept 0 xs)
 
-pub map-upto : {A B : Type 0} (g : A → B) (n : ℕ) (f : ℕ → A) → map g (upto n f) ≡ upto n (λ i. g (f i))
-map-upto g zero f = refl
-map-upto g (suc n) f = ap (λ (ys : List _). g (f 0) ∷ ys) (map-upto g n (λ i. f (suc i)))
-
 -- ---- the results
 
 abbrev pub result-at : State → Clock → List ℕ → ℕ → Stored
@@ -57,9 +54,6 @@ result-at s k run i = mend s k (decode-stored form-1 (block-at run i))
 
 pub results-are : (s : State) (k : Clock) (run : List ℕ) → results s k run ≡ upto (length run / 512) (result-at s k run)
 results-are s k run = map-upto (mend s k) (length run / 512) (λ i. decode-stored form-1 (block-at run i))
-
-pub results-count : (s : State) (k : Clock) (run : List ℕ) → length (results s k run) ≡ length run / 512
-results-count s k run = ap length (results-are s k run) ∙ upto-length (length run / 512) (result-at s k run)
 
 -- of the first i is told
 pub record Tallying (s : State) (k c : Clock) (run : List ℕ) (i : ℕ) (many : Bool) (coming going : ℕ) (marks : List ℕ) : Type 0 where
@@ -121,7 +115,7 @@ module _ (s : State) (k c : Clock) (run : List ℕ) where
         f r = mark (comes c (s .points) r)
 
         marks-are : take (length run / 512) marks ≡ map (λ r. mark (comes c (s .points) r)) (results s k run)
-        marks-are = ext-getD 0 (take n marks) (map f (results s k run)) (omega (arith, taken, map-length f (results s k run), results-count s k run)) each-mark
+        marks-are = ext-getD 0 (take n marks) (map f (results s k run)) (omega (arith, taken, map-length f (results s k run), results-length s k run)) each-mark
           where
             taken : length (take (length run / 512) marks) ≡ length run / 512
             taken = simp (length-take) (omega (arith, T .size))

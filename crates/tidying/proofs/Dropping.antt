@@ -1,13 +1,12 @@
 -- The dots of a list that all know taken out of it, from the last to the first. Assumes nothing.
-use Prim.Native.Nat.{ℕ, suc, _+_, _-_, _≤_, _<_}
+use Prim.Native.Nat.{ℕ, suc, _-_, _≤_, _<_}
 use mathlib.Core.Path.{_≡_, refl, ap, ap₂, sym, _∙_, subst}
 use mathlib.Core.Bool.{Bool, true, false, not}
-use mathlib.Core.List.{List, [], _∷_, _++_, append-assoc, append-nil}
+use mathlib.Core.List.{List}
 use native.Mathlib.Omega.{arith}
-use lib.ListN.{length, take, drop, getD, length-append, length-take, drop-of-length-le}
-use lib.Seq.{take-all, take-suc, drop-cons, getD-take, take-at, drop-at}
+use lib.ListN.{length, getD}
 use lib.Dec.{eqb}
-use Rattle.numbers.specs.Words.{if_then_else_, cons-if, keep}
+use Rattle.numbers.specs.Words.{if_then_else_, keep}
 use Rattle.numbers.specs.Numbers.{Crew, is-controller}
 use Rattle.numbers.proofs.Tests.{by-test}
 use Rattle.numbers.proofs.Lists.{all-in}
@@ -21,43 +20,7 @@ use Rattle.dots.specs.Entries.{no-entry}
 use Rattle.image_edits.specs.Edits.{Canonical, with-own-dots, with-foreign-dots, list-of, with-list}
 use Rattle.replying.specs.Nearest.{all-crew}
 use Rattle.tidying.specs.Tidied.{known-now, without-known}
-
--- ---- those of a list that fail a test taken out, from the last to the first
-
-module _ {A : Type 0} (f : A → Bool) (xs : List A) (d : A) where
-  -- those from the i-th on are tested, and those that failed are gone
-  abbrev pub tested : ℕ → List A
-  tested i = take i xs ++ keep f (drop i xs)
-
-  pub tested-none : tested (length xs) ≡ xs
-  tested-none =
-      ap (λ (l : List A). take (length xs) xs ++ keep f l) (drop-of-length-le xs {i = length xs} (omega arith)) ∙ append-nil (take (length xs) xs) ∙ take-all (length xs) xs (omega arith)
-
-  module _ (i : ℕ) (l : i < length xs) where
-    pub tested-length : i < length (tested (suc i))
-    tested-length = omega (arith, length-append (take (suc i) xs) (keep f (drop (suc i) xs)), length-take (suc i) xs)
-
-    pub tested-at : getD (tested (suc i)) i d ≡ getD xs i d
-    tested-at =
-        lib.ListN.List·getD-append (take (suc i) xs) (keep f (drop (suc i) xs)) d i (omega (arith, length-take (suc i) xs)) ∙ getD-take (suc i) xs i d (omega arith)
-
-    front : length (take i xs) ≡ i
-    front = length-take i xs ∙ omega arith
-
-    parts : tested (suc i) ≡ take i xs ++ (getD xs i d ∷ keep f (drop (suc i) xs))
-    parts = ap (λ (u : List A). u ++ keep f (drop (suc i) xs)) (take-suc xs i d l) ∙ append-assoc (take i xs) (getD xs i d ∷ []) (keep f (drop (suc i) xs))
-
-    next : (b : Bool) → f (getD xs i d) ≡ b → take i xs ++ cons-if b (getD xs i d) (keep f (drop (suc i) xs)) ≡ tested i
-    next b t = ap (λ (u : List A). take i xs ++ u) (sym (ap (keep f) (drop-cons xs i d l) ∙ ap (λ (c : Bool). cons-if c (getD xs i d) (keep f (drop (suc i) xs))) t))
-
-    pub passes : f (getD xs i d) ≡ true → tested (suc i) ≡ tested i
-    passes t = parts ∙ next true t
-
-    pub fails : f (getD xs i d) ≡ false → remove-at (tested (suc i)) i ≡ tested i
-    fails t =
-        ap (λ (u : List A). remove-at u i) parts
-        ∙ ap₂ (λ (u v : List A). u ++ drop 1 v) (take-at (take i xs) (getD xs i d ∷ keep f (drop (suc i) xs)) i front) (drop-at (take i xs) (getD xs i d ∷ keep f (drop (suc i) xs)) i front)
-        ∙ next false t
+use Rattle.object.proofs.Dropping.{tested, tested-none, tested-length, tested-at, passes, fails}
 
 -- ---- a state with another list
 

@@ -1,31 +1,30 @@
 -- What the refusals 4 to 10 leave of a message's point, and what the merge makes of it. Assumes nothing.
-use Prim.Native.Nat.{_+_, _≤_}
+use Prim.Native.Nat.{_+_}
 use mathlib.Core.Path.{_≡_, refl, ap, sym, _∙_}
-use mathlib.Core.Bool.{Bool, true, false, _&&_, _||_, not}
+use mathlib.Core.Bool.{Bool, true, false, _||_, not}
 use mathlib.Core.List.{List, [], _∷_}
 use lib.ListN.{length}
-use lib.Dec.{ltb}
-use borrow.Author.Tests.{ltb-false, not-true}
+use borrow.Author.Tests.{not-true}
 use Rattle.numbers.specs.declared.Key.{Key}
 use Rattle.numbers.specs.Words.{some?, all?, ascends?}
-use Rattle.numbers.specs.Numbers.{is-controller, same-controller}
-use Rattle.numbers.proofs.Tests.{by-test, and-false, or-false, or-inl, or-inr, _∈_}
-use Rattle.numbers.proofs.Lists.{clause, none-in, in-all}
-use Rattle.numbers.proofs.Controllers.{is-crew, controller-itself}
+use Rattle.numbers.specs.Numbers.{is-controller}
+use Rattle.numbers.proofs.Tests.{by-test, or-inl, or-inr}
+use Rattle.numbers.proofs.Lists.{clause, in-all}
+use Rattle.numbers.proofs.Controllers.{is-crew}
 use Rattle.numbers.proofs.Dots.{same-dots}
 use Rattle.numbers.specs.Dot.{same-dot}
 use Rattle.block.proofs.Same.{same-itself}
 use Rattle.meaning.specs.CrewTable.{holds}
-use Rattle.meaning.specs.Context.{entry}
 use Rattle.meaning.specs.Object.{Contents, value, deleted, same-contents, Version, version-before, Object, survivors, merge}
-use Rattle.meaning.specs.State.{State, own-base, local}
+use Rattle.meaning.specs.State.{State, local}
 use Rattle.meaning.specs.Message.{point-formed, covers-all}
 use Rattle.meaning.specs.Exchange.{ahead-of-us, clashes}
-use Rattle.laws.proofs.Facts.{point-facts, covers-each, each-covered}
+use Rattle.laws.proofs.Facts.{each-covered}
 use Rattle.laws.proofs.Goodness.{Good}
 use Rattle.laws.proofs.Local.{LocalFacts, local-facts}
 use Rattle.laws.proofs.MergeLaws.{Agreeing}
 use Rattle.laws.proofs.Merging.{Carried}
+use Rattle.laws.proofs.StaysGood.{point-carried}
 use Rattle.record.specs.Crewed.{crewed}
 use Rattle.merging.specs.Merging.{arriving, agreeing}
 use Rattle.merging.proofs.Merged.{merged-count}
@@ -75,32 +74,8 @@ module _ (s : State) (G : Good s) (k : Key) (o : Object) (ok : takable s k o ≡
   unfolding takable
   free = not-true (some? (clashes s k) (o .versions)) (clause tests ok 4)
 
-  no-own : (some? (λ v. same-controller (v .dot .who) (s .own) && ltb (own-base s) (v .dot .count .0)) (o .versions) ≡ false) × (ltb (own-base s) (entry (o .context) (s .own) .0) ≡ false)
-  unfolding ahead-of-us
-  no-own = or-false _ _ behind
-
-  own-low : (v : Version) → v ∈ o .versions → v .dot .who ≡ s .own → v .dot .count .0 ≤ own-base s
-  own-low v m e =
-      ltb-false (own-base s) (v .dot .count .0)
-      (and-false (same-controller (v .dot .who) (s .own)) (ltb (own-base s) (v .dot .count .0))
-      (none-in (λ w. same-controller (w .dot .who) (s .own) && ltb (own-base s) (w .dot .count .0)) (o .versions) (no-own .0) m)
-      (ap (λ n. same-controller n (s .own)) e ∙ controller-itself (s .own)))
-
   pub carried : Carried s k o
-  carried =
-      let P = point-facts (s .table) k o formed in
-      record {
-        key-good = P .key-good;
-        held = held;
-        object = record {
-          versions = P .versions;
-          context = P .context;
-          covered = covers-each (o .context) (o .versions) covered;
-          own-entry = ltb-false (own-base s) (entry (o .context) (s .own) .0) (no-own .1);
-        };
-        own-dots = own-low;
-        free = λ v m. none-in (clashes s k) (o .versions) free m;
-      }
+  carried = point-carried s k o formed covered held behind free
 
   L : LocalFacts s k (local s k)
   L = local-facts s G k held

@@ -21,9 +21,9 @@ use Rattle.reply_form.proofs.LaidOut.{laid-point, few}
 use Rattle.hearing.specs.Heard.{AllLaid, reply-in, peers-judged}
 use Rattle.hearing.proofs.Points.{reply-lent}
 use Rattle.hearing.proofs.Judging.{wrong-check, not-laid-out, not-formed, by-the-rest}
-use Rattle.hearing.proofs.Filled.{reply-sender}
 use denote.Ref.{now}
 use native.Mathlib.Omega.{arith}
+use Rattle.laws.proofs.Formed.{formed-reply}
 use Rattle.hearing.proofs.judge_reply.Statement.{statement}
 use Rattle.hearing.proofs.judge_reply.Tie as tie
 
@@ -89,7 +89,7 @@ judge-points-requires c κs =
     let reply = now (c .before .before .before .before .before .before .before .before .before .before .before .args .reply) in
     let laid = (sym (c .before .before .before .before .before .before .reply-laid-out .ensures) ∙ not-false _ (c .before .before .before .before .before .if2 .left)) in
     let lent = sym (rest-lent reply) in
-    (r .0, r .1, length-cut reply 0 512 (omega (arith, at-least reply (r .2))), subst Few lent (few reply (r .2) (bytes-of reply (c .before .before .before .before .before .before .before .before .before .shared-slice-known2 .given)) laid), subst AllLaid lent (laid-point reply (r .2) (bytes-of reply (c .before .before .before .before .before .before .before .before .before .shared-slice-known2 .given)) laid), subst (λ (q : Reply). Crew (q .sender)) (reply-lent reply) (reply-sender (decode image) (decode-reply reply) (ap (λ (t : CrewTable). reply-formed t (decode-reply reply)) (sym (table-part image (r .0))) ∙ sym (c .before .before .before .reply-formed .ensures) ∙ not-false _ (c .before .before .if3 .left))))
+    (r .0, r .1, length-cut reply 0 512 (omega (arith, at-least reply (r .2))), subst Few lent (few reply (r .2) (bytes-of reply (c .before .before .before .before .before .before .before .before .before .shared-slice-known2 .given)) laid), subst AllLaid lent (laid-point reply (r .2) (bytes-of reply (c .before .before .before .before .before .before .before .before .before .shared-slice-known2 .given)) laid), subst (λ (q : Reply). Crew (q .sender)) (reply-lent reply) (formed-reply (decode image .table) (decode-reply reply) (ap (λ (t : CrewTable). reply-formed t (decode-reply reply)) (sym (table-part image (r .0))) ∙ sym (c .before .before .before .reply-formed .ensures) ∙ not-false _ (c .before .before .if3 .left)) .sender))
 
 returns-4 : tie.Need-returns-4
 returns-4 c =

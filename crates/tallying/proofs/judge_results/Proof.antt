@@ -10,7 +10,7 @@ use Rattle.store.proofs.Lent.{good-ascends}
 use Rattle.mending.specs.Mended.{results}
 use Rattle.image_edits.proofs.Blocks.{image-decoded}
 use Rattle.block.proofs.Numbers.{bytes-of}
-use Rattle.tallying.proofs.Tally.{results-count}
+use Rattle.mending.proofs.Passing.{results-length}
 use Rattle.tallying.proofs.Judged.{many-versions, no-place, place-for-all}
 use denote.Ref.{now}
 use native.Mathlib.Omega.{arith}
@@ -27,10 +27,10 @@ returns : tie.Need-returns
 returns c = (many-versions (decode (now (c .before .before .before .before .before .before .before .before .before .before .args .image))) (decode-clock (now (c .before .before .before .before .before .before .before .before .before .before .args .rows))) (results (decode (now (c .before .before .before .before .before .before .before .before .before .before .args .image))) (decode-clock (now (c .before .before .before .before .before .before .before .before .before .before .args .clock))) (now (c .before .before .before .before .before .before .before .before .before .before .args .points))) (c .before .before .before .before .before .before .before .before .before .before .pre .9) (sym (c .before .before .before .weigh-all .ensures .0 .0) ∙ c .if1 .taken), c .before .before .before .weigh-all .ensures .0 .3, c .before .before .before .weigh-all .ensures .1)
 
 add-if2 : tie.Need-add-if2
-add-if2 c = omega (arith, c .before .before .before .before .before .before .before .before .before .before .pre .2, image-decoded (now (c .before .before .before .before .before .before .before .before .before .before .args .image)) (bytes-of (now (c .before .before .before .before .before .before .before .before .before .before .args .image)) (c .before .before .before .before .before .before .before .before .before .shared-slice-known .given)) (c .before .before .before .before .before .before .before .before .before .before .pre .0) .few, c .before .before .before .weigh-all .ensures .0 .1, c .before .before .before .weigh-all .ensures .0 .2, keep-length stored-before (comes (decode-clock (now (c .before .before .before .before .before .before .before .before .before .before .args .rows))) ((decode (now (c .before .before .before .before .before .before .before .before .before .before .args .image))) .points)) (results (decode (now (c .before .before .before .before .before .before .before .before .before .before .args .image))) (decode-clock (now (c .before .before .before .before .before .before .before .before .before .before .args .clock))) (now (c .before .before .before .before .before .before .before .before .before .before .args .points))), keep-length stored-before (goes-away (decode-clock (now (c .before .before .before .before .before .before .before .before .before .before .args .rows))) ((decode (now (c .before .before .before .before .before .before .before .before .before .before .args .image))) .points)) (results (decode (now (c .before .before .before .before .before .before .before .before .before .before .args .image))) (decode-clock (now (c .before .before .before .before .before .before .before .before .before .before .args .clock))) (now (c .before .before .before .before .before .before .before .before .before .before .args .points))), results-count (decode (now (c .before .before .before .before .before .before .before .before .before .before .args .image))) (decode-clock (now (c .before .before .before .before .before .before .before .before .before .before .args .clock))) (now (c .before .before .before .before .before .before .before .before .before .before .args .points)), c .before .before .before .before .before .before .before .before .before .before .pre .6, c .before .before .before .before .before .before .before .before .before .before .pre .7)
+add-if2 c = omega (arith, c .before .before .before .before .before .before .before .before .before .before .pre .2, image-decoded (now (c .before .before .before .before .before .before .before .before .before .before .args .image)) (bytes-of (now (c .before .before .before .before .before .before .before .before .before .before .args .image)) (c .before .before .before .before .before .before .before .before .before .shared-slice-known .given)) (c .before .before .before .before .before .before .before .before .before .before .pre .0) .few, c .before .before .before .weigh-all .ensures .0 .1, c .before .before .before .weigh-all .ensures .0 .2, keep-length stored-before (comes (decode-clock (now (c .before .before .before .before .before .before .before .before .before .before .args .rows))) ((decode (now (c .before .before .before .before .before .before .before .before .before .before .args .image))) .points)) (results (decode (now (c .before .before .before .before .before .before .before .before .before .before .args .image))) (decode-clock (now (c .before .before .before .before .before .before .before .before .before .before .args .clock))) (now (c .before .before .before .before .before .before .before .before .before .before .args .points))), keep-length stored-before (goes-away (decode-clock (now (c .before .before .before .before .before .before .before .before .before .before .args .rows))) ((decode (now (c .before .before .before .before .before .before .before .before .before .before .args .image))) .points)) (results (decode (now (c .before .before .before .before .before .before .before .before .before .before .args .image))) (decode-clock (now (c .before .before .before .before .before .before .before .before .before .before .args .clock))) (now (c .before .before .before .before .before .before .before .before .before .before .args .points))), results-length (decode (now (c .before .before .before .before .before .before .before .before .before .before .args .image))) (decode-clock (now (c .before .before .before .before .before .before .before .before .before .before .args .clock))) (now (c .before .before .before .before .before .before .before .before .before .before .args .points)), c .before .before .before .before .before .before .before .before .before .before .pre .6, c .before .before .before .before .before .before .before .before .before .before .pre .7)
 
 add-if2-2 : tie.Need-add-if2-2
-add-if2-2 c = omega (arith, c .before .before .before .before .before .before .before .before .before .before .pre .2, image-decoded (now (c .before .before .before .before .before .before .before .before .before .before .args .image)) (bytes-of (now (c .before .before .before .before .before .before .before .before .before .before .args .image)) (c .before .before .before .before .before .before .before .before .before .shared-slice-known .given)) (c .before .before .before .before .before .before .before .before .before .before .pre .0) .few, c .before .before .before .weigh-all .ensures .0 .1, c .before .before .before .weigh-all .ensures .0 .2, keep-length stored-before (comes (decode-clock (now (c .before .before .before .before .before .before .before .before .before .before .args .rows))) ((decode (now (c .before .before .before .before .before .before .before .before .before .before .args .image))) .points)) (results (decode (now (c .before .before .before .before .before .before .before .before .before .before .args .image))) (decode-clock (now (c .before .before .before .before .before .before .before .before .before .before .args .clock))) (now (c .before .before .before .before .before .before .before .before .before .before .args .points))), keep-length stored-before (goes-away (decode-clock (now (c .before .before .before .before .before .before .before .before .before .before .args .rows))) ((decode (now (c .before .before .before .before .before .before .before .before .before .before .args .image))) .points)) (results (decode (now (c .before .before .before .before .before .before .before .before .before .before .args .image))) (decode-clock (now (c .before .before .before .before .before .before .before .before .before .before .args .clock))) (now (c .before .before .before .before .before .before .before .before .before .before .args .points))), results-count (decode (now (c .before .before .before .before .before .before .before .before .before .before .args .image))) (decode-clock (now (c .before .before .before .before .before .before .before .before .before .before .args .clock))) (now (c .before .before .before .before .before .before .before .before .before .before .args .points)), c .before .before .before .before .before .before .before .before .before .before .pre .6, c .before .before .before .before .before .before .before .before .before .before .pre .7)
+add-if2-2 c = omega (arith, c .before .before .before .before .before .before .before .before .before .before .pre .2, image-decoded (now (c .before .before .before .before .before .before .before .before .before .before .args .image)) (bytes-of (now (c .before .before .before .before .before .before .before .before .before .before .args .image)) (c .before .before .before .before .before .before .before .before .before .shared-slice-known .given)) (c .before .before .before .before .before .before .before .before .before .before .pre .0) .few, c .before .before .before .weigh-all .ensures .0 .1, c .before .before .before .weigh-all .ensures .0 .2, keep-length stored-before (comes (decode-clock (now (c .before .before .before .before .before .before .before .before .before .before .args .rows))) ((decode (now (c .before .before .before .before .before .before .before .before .before .before .args .image))) .points)) (results (decode (now (c .before .before .before .before .before .before .before .before .before .before .args .image))) (decode-clock (now (c .before .before .before .before .before .before .before .before .before .before .args .clock))) (now (c .before .before .before .before .before .before .before .before .before .before .args .points))), keep-length stored-before (goes-away (decode-clock (now (c .before .before .before .before .before .before .before .before .before .before .args .rows))) ((decode (now (c .before .before .before .before .before .before .before .before .before .before .args .image))) .points)) (results (decode (now (c .before .before .before .before .before .before .before .before .before .before .args .image))) (decode-clock (now (c .before .before .before .before .before .before .before .before .before .before .args .clock))) (now (c .before .before .before .before .before .before .before .before .before .before .args .points))), results-length (decode (now (c .before .before .before .before .before .before .before .before .before .before .args .image))) (decode-clock (now (c .before .before .before .before .before .before .before .before .before .before .args .clock))) (now (c .before .before .before .before .before .before .before .before .before .before .args .points)), c .before .before .before .before .before .before .before .before .before .before .pre .6, c .before .before .before .before .before .before .before .before .before .before .pre .7)
 
 same-length-2 : tie.Need-same-length-2
 same-length-2 c = search needs
