@@ -13,9 +13,10 @@ use Rattle.numbers.specs.Words.{if_then_else_, cons-if, keep, map, ascends?}
 use Rattle.numbers.specs.Key.{same-key}
 use Rattle.numbers.proofs.Tests.{by-test}
 use Rattle.numbers.proofs.Orders.{ascends-rest}
+use Rattle.numbers.proofs.Dots.{other-way}
 use Rattle.block.proofs.Arrays.{getD-in}
 use Rattle.meaning.specs.State.{Stored, stored-before}
-use Rattle.placing.proofs.Order.{other-way, None-of, first-apart}
+use Rattle.placing.proofs.Order.{None-of, first-apart}
 use Rattle.mending.specs.Mended.{marked}
 
 -- ---- marks that a test gave
