@@ -20,6 +20,7 @@ use Rattle.laws.proofs.Putting.{put-all-ascends}
 use Rattle.layout.specs.PointBlock.{form-1, decode-stored}
 use Rattle.record_edits.specs.Written.{lay-point, point-block}
 use Rattle.image_edits.specs.Edits.{with-points}
+use Rattle.apart.specs.Apart.{point-of}
 use Rattle.arriving.specs.Sent.{points-in}
 use Rattle.arriving.proofs.Folding.{fold-append}
 use Rattle.weighing.specs.Weighed.{key-in}
@@ -32,10 +33,6 @@ mapped-at : {A B : Type 0} (f : A → B) (xs : List A) (d : B) (e : A) (i : ℕ)
 mapped-at f [] d e i l = absurd (omega arith)
 mapped-at f (x ∷ xs) d e zero l = refl
 mapped-at f (x ∷ xs) d e (suc i) l = mapped-at f xs d e i (le-of-suc-le-suc l)
-
--- the i-th point of a run
-abbrev pub point-of : List ℕ → ℕ → Stored
-point-of run i = decode-stored form-1 (block-at run i)
 
 -- what the first i marks leave of a state
 abbrev pub reached : State → Clock → Clock → List ℕ → List ℕ → ℕ → ℕ → State
