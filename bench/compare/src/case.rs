@@ -1,7 +1,7 @@
 //! One call with its lent buffers, and the two programs that can make it.
 
-use second::{calls, image};
-use sqimrutta::raw;
+use beside::Library;
+use second::store::{Second, Store};
 
 unsafe extern "C" {
     fn bare_checks(image: *const u8) -> u32;
@@ -60,8 +60,8 @@ impl Case {
     #[inline(never)]
     pub fn make(&mut self, maker: Maker) -> (u32, u32) {
         match maker {
-            Maker::Library => self.by_library(),
-            Maker::Second => self.by_second(),
+            Maker::Library => self.by(&Library),
+            Maker::Second => self.by(&Second),
             // They count the blocks whose check is right.
             // SAFETY: both read 67 blocks, and the image has as many.
             Maker::Checks => (0, unsafe { bare_checks(self.image.as_ptr()) }),
@@ -70,39 +70,20 @@ impl Case {
         }
     }
 
-    fn by_library(&mut self) -> (u32, u32) {
+    /// `good` is answered by 0, "accepted", or by 2, "not good".
+    fn by(&mut self, store: &dyn Store) -> (u32, u32) {
         let Case { name, number, point, image, input, context, out } = self;
         let answer = match name {
-            Name::Good => return (if raw::good(image) { 0 } else { 2 }, 0),
-            Name::Start => raw::start(image, *number, input).map(|()| 0),
-            Name::Read => raw::read(image, *number, *point, out).map(|()| 0),
-            Name::Write => raw::write(image, *number, *point, input, context, out).map(|()| 0),
-            Name::Delete => raw::delete(image, *number, *point, context, out).map(|()| 0),
-            Name::TakeIn => raw::take_in(image, input).map(|()| 0),
-            Name::Ask => raw::ask(image, *number, out).map(|()| 0),
-            Name::Reply => raw::reply(image, input, out),
-            Name::Repair => raw::repair(image, input).map(|()| 0),
-            Name::StripPass => raw::strip_pass(image),
-        };
-        match answer {
-            Ok(count) => (0, count),
-            Err(refusal) => (refusal.number(), 0),
-        }
-    }
-
-    fn by_second(&mut self) -> (u32, u32) {
-        let Case { name, number, point, image, input, context, out } = self;
-        let answer = match name {
-            Name::Good => return (if image::is_good(image) { 0 } else { 2 }, 0),
-            Name::Start => calls::start(image, *number, input).map(|()| 0),
-            Name::Read => calls::read(image, *number, *point, out).map(|()| 0),
-            Name::Write => calls::write(image, *number, *point, input, context, out).map(|()| 0),
-            Name::Delete => calls::delete(image, *number, *point, context, out).map(|()| 0),
-            Name::TakeIn => calls::take_in(image, input).map(|()| 0),
-            Name::Ask => calls::ask(image, *number, out).map(|()| 0),
-            Name::Reply => calls::reply(image, input, out),
-            Name::Repair => calls::repair(image, input).map(|()| 0),
-            Name::StripPass => calls::strip_pass(image),
+            Name::Good => return (if store.good(image) { 0 } else { 2 }, 0),
+            Name::Start => store.start(image, *number, input).map(|()| 0),
+            Name::Read => store.read(image, *number, *point, out).map(|()| 0),
+            Name::Write => store.write(image, *number, *point, input, context, out).map(|()| 0),
+            Name::Delete => store.delete(image, *number, *point, context, out).map(|()| 0),
+            Name::TakeIn => store.take_in(image, input).map(|()| 0),
+            Name::Ask => store.ask(image, *number, out).map(|()| 0),
+            Name::Reply => store.reply(image, input, out),
+            Name::Repair => store.repair(image, input).map(|()| 0),
+            Name::StripPass => store.strip_pass(image),
         };
         match answer {
             Ok(count) => (0, count),
