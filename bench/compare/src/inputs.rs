@@ -4,7 +4,8 @@
 //! - empty: a fresh image of handheld 1 in a crew of four;
 //! - typical: 20 points of 1 to 3 versions, 29 in all, two points deleted, 5 own and 13 foreign listed dots, one of a point without a record;
 //! - full: 64 points of 8 versions of 24 bytes, four of them deleted eight times, 60 own and 60 foreign listed dots. A write or delete
-//!   on 60 own dots is refused (14), so these two get the same image with 59.
+//!   on 60 own dots is refused (14), so these two get the same image with 59;
+//! - scattered: a full image, but with each controller's counters far apart, as after some thousand writes, and not in a row.
 
 use crate::case::{Case, Name};
 use second::block::BLOCK;
@@ -33,6 +34,13 @@ pub enum Size {
     Empty,
     Typical,
     Full,
+    Scattered,
+}
+
+impl Size {
+    fn is_full(self) -> bool {
+        matches!(self, Size::Full | Size::Scattered)
+    }
 }
 
 fn controller(number: u8) -> Controller {
@@ -42,7 +50,7 @@ fn controller(number: u8) -> Controller {
 fn table(size: Size) -> Table {
     match size {
         Size::Empty | Size::Typical => Table([15, 15, 0, 0, 0, 0, 0, 0]),
-        Size::Full => Table([255; 8]),
+        Size::Full | Size::Scattered => Table([255; 8]),
     }
 }
 
@@ -50,7 +58,7 @@ fn table(size: Size) -> Table {
 fn image_of(size: Size) -> Vec<u8> {
     let state = match size {
         Size::Empty => State::fresh(controller(OWN), table(size)),
-        Size::Typical | Size::Full => filled_state(size),
+        Size::Typical | Size::Full | Size::Scattered => filled_state(size),
     };
     let bytes = image::encode(&state);
     assert!(image::is_good(&bytes), "the prepared image");
@@ -58,14 +66,15 @@ fn image_of(size: Size) -> Vec<u8> {
 }
 
 fn filled_state(size: Size) -> State {
-    let full = size == Size::Full;
+    let full = size.is_full();
+    let (least, apart) = if size == Size::Scattered { (70_000, 900) } else { (300, 1) };
     let (writers, jobs, points, deleted) = if full { (8, 8, 64, 4) } else { (4, 2, 20, 2) };
     let (own_listed, foreign_listed) = if full { (60, 60) } else { (5, 12) };
     let mut random = Random::new(SEED);
     let crew: Vec<Controller> = (1..=writers).map(controller).collect();
     let mut state = State::fresh(controller(OWN), table(size));
     for &n in &crew {
-        state.clock.0[n.index()] = Row::up_to(Counter(300 + random.below(1000) as u64));
+        state.clock.0[n.index()] = Row::up_to(Counter(least + random.below(1000) as u64));
     }
     let base = |state: &State, n: Controller| state.clock.row(n).base().0;
 
@@ -93,7 +102,7 @@ fn filled_state(size: Size) -> State {
                 object.context.raise(n, Counter(counter));
                 early.pop();
             } else {
-                back[n.index()] += 1;
+                back[n.index()] += random.between(1, apart) as u64;
             }
             let length = if full { 24 } else { random.between(6, 24) };
             let bytes: Vec<u8> = (0..length).map(|_| random.below(256) as u8).collect();
@@ -150,7 +159,7 @@ fn peer_of(bytes: &[u8]) -> Vec<u8> {
 /// eight versions stay; else all that it reads.
 fn context_for(bytes: &[u8], size: Size, point: Point) -> [u32; 8] {
     let state = image::decode(bytes).expect("a good image");
-    if size != Size::Full {
+    if !size.is_full() {
         return state.filled(point).context.0.map(Counter::to_u32);
     }
     let mut context = [0; 8];
@@ -189,7 +198,7 @@ fn peers_points(bytes: &[u8], size: Size) -> Vec<Point> {
     match size {
         Size::Empty => new(10).collect(),
         Size::Typical => stored.into_iter().step_by(3).take(5).chain(new(5)).collect(),
-        Size::Full => stored,
+        Size::Full | Size::Scattered => stored,
     }
 }
 
@@ -218,7 +227,7 @@ pub fn case(name: Name, size: Size) -> Case {
             if name != Name::Read {
                 case.input = if name == Name::Write { vec![8; 24] } else { Vec::new() };
                 case.context = context_for(&bytes, size, point);
-                if size == Size::Full {
+                if size.is_full() {
                     let mut state = image::decode(&bytes).expect("a good image");
                     state.own_dots.pop_first();
                     bytes = image::encode(&state);
@@ -267,6 +276,7 @@ mod tests {
         assert_eq!(shape(&image_of(Size::Empty)), (0, 0, 0, 0));
         assert_eq!(shape(&image_of(Size::Typical)), (20, 29, 5, 13));
         assert_eq!(shape(&image_of(Size::Full)), (64, 512, 60, 60));
+        assert_eq!(shape(&image_of(Size::Scattered)), (64, 512, 60, 60));
     }
 
     /// What a call leaves of a full image: still eight versions of every point, so nothing is measured on less.

@@ -1,7 +1,7 @@
 //! compare IMPL CALL SIZE [times N]: one call on prepared bytes, for `bench/calls`.
 //!
 //! IMPL is library, second, or for good also checks and checks-unrolled (the bare check sums in C); CALL is one of the nine or good; SIZE is
-//! empty, typical or full (src/inputs.rs). Both programs' answers and bytes are compared first. Then the call is made once in
+//! empty, typical, full or scattered (src/inputs.rs). Both programs' answers and bytes are compared first. Then the call is made once in
 //! `measured_call`, which `valgrind --tool=callgrind --toggle-collect=measured_call` counts alone; or, with `times N`, N times by the clock, and the
 //! median is printed, in nanoseconds.
 //!
@@ -45,11 +45,12 @@ const NAMES: [(&str, Name); 10] = [
     ("strip_pass", Name::StripPass),
 ];
 
-const SIZES: [(&str, Size); 3] = [("empty", Size::Empty), ("typical", Size::Typical), ("full", Size::Full)];
+const SIZES: [(&str, Size); 4] =
+    [("empty", Size::Empty), ("typical", Size::Typical), ("full", Size::Full), ("scattered", Size::Scattered)];
 
 fn usage() -> ! {
-    eprintln!("usage: compare library|second|checks|checks-unrolled CALL empty|typical|full [times N]");
-    eprintln!("       compare both CALL empty|typical|full times N");
+    eprintln!("usage: compare library|second|checks|checks-unrolled CALL empty|typical|full|scattered [times N]");
+    eprintln!("       compare both CALL empty|typical|full|scattered times N");
     exit(2)
 }
 
