@@ -161,7 +161,7 @@ pub fn dots_good(b: &[u8], mine: bool, own: Controller, table: &[u8], rows: &[u8
 }
 
 // Where the dot is listed, by halves: it lies at `low` or behind it, and before `high`.
-pub fn find_dot(b: &[u8], d: Dot) -> Found
+fn search_dot(b: &[u8], d: Dot) -> Found
     requires { ⌜ (length (now b) ≡ 512)
         × (field (now b) 4 2 ≤ 60)
         × (ascends? listed-before (decode-dots (now b)) ≡ true) ⌝ }
@@ -182,6 +182,27 @@ pub fn find_dot(b: &[u8], d: Dot) -> Found
         }
     }
     Found::Before(low)
+}
+
+// Where the dot is listed. One that comes before the first or after the last is not looked for: so it is with all other controllers' dots in the
+// list of own ones.
+pub fn find_dot(b: &[u8], d: Dot) -> Found
+    requires { ⌜ (length (now b) ≡ 512)
+        × (field (now b) 4 2 ≤ 60)
+        × (ascends? listed-before (decode-dots (now b)) ≡ true) ⌝ }
+    ensures { λ r. ⌜ Found-in (decode-dots (now (b .entry))) d r ⌝ }
+{
+    let count = entry_count(b) as usize;
+    if count == 0 {
+        return Found::Before(0);
+    }
+    if d.before(entry_dot(b, 0)) {
+        return Found::Before(0);
+    }
+    if entry_dot(b, count - 1).before(d) {
+        return Found::Before(count);
+    }
+    search_dot(b, d)
 }
 
 // ---- edits: the list holds other dots and is laid out still, but for its check, which is made after the last of them

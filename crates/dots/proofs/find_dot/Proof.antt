@@ -1,108 +1,61 @@
--- `dots::find_dot` meets its contract. The invariant: those before low come before the dot, those from high on after it (Search). Assumes nothing.
+-- `dots::find_dot` meets its contract: the ends are looked at first (Search). Assumes nothing.
 use borrow.Author.Needs.{needs}
-use Prim.Native.Nat.{_+_, _-_, _/_}
-use mathlib.Core.Path.{sym, ap, _∙_}
+use mathlib.Core.Path.{sym, _∙_}
+use Rattle.dots.proofs.Search.{before-none, before-first, after-last}
 use denote.Ref.{now}
 use native.Mathlib.Omega.{arith}
-use borrow.Author.Tests.{not-true, not-false}
-use Rattle.numbers.specs.declared.Dot.{Dot}
-use Rattle.numbers.specs.Dot.{dot-before}
-use Rattle.numbers.proofs.Dots.{dot-order}
-use Rattle.block.specs.Fields.{field}
-use Rattle.block.proofs.Search.{Between, nothing-yet, upper-half, lower-half}
-use Rattle.dots.specs.Entries.{entry}
-use Rattle.dots.proofs.Search.{all-pairs, found-at, found-before}
 use Rattle.dots.proofs.find_dot.Statement.{statement}
 use Rattle.dots.proofs.find_dot.Tie as tie
 
-abbrev Inv-loop : tie.InvT-loop
-Inv-loop b d low₀ high₀ low high = Between dot-before (field b 4 2) (λ j. entry b j .dot) d low high
-
-abbrev μ-loop : tie.MeasureT-loop
-μ-loop b d low₀ high₀ low high = high - low
-
-entry-count-requires : tie.Need-entry-count-requires Inv-loop μ-loop
+entry-count-requires : tie.Need-entry-count-requires
 entry-count-requires c κs = search needs
 
-cast-high : tie.Need-cast-high Inv-loop μ-loop
-cast-high c = search needs
+cast-count : tie.Need-cast-count
+cast-count c = search needs
 
-loop-holds : tie.Need-loop-holds Inv-loop μ-loop
-loop-holds c =
-    let a = c .before .before .args in
-    nothing-yet (c .entry-count .ensures) (all-pairs (now (a .b)) (search needs) (a .d) (c .before .before .pre .2))
+returns : tie.Need-returns
+returns c = before-none (now (c .before .before .before .args .b)) (search needs) (c .before .before .before .args .d) (c .before .before .before .pre .2) (omega (arith, c .before .entry-count .ensures, c .if1 .taken))
 
-sub-mid : tie.Need-sub-mid Inv-loop μ-loop
-sub-mid c = search needs
-
-add-mid : tie.Need-add-mid Inv-loop μ-loop
-add-mid c = search needs
-
-entry-dot-requires : tie.Need-entry-dot-requires Inv-loop μ-loop
+entry-dot-requires : tie.Need-entry-dot-requires
 entry-dot-requires c κs = search needs
 
-before-requires : tie.Need-before-requires Inv-loop μ-loop
+before-requires : tie.Need-before-requires
 before-requires c κs = search needs
 
-add-low : tie.Need-add-low Inv-loop μ-loop
-add-low c = search needs
+returns-2 : tie.Need-returns-2
+returns-2 c = before-first (now (c .before .before .before .before .before .before .args .b)) (search needs) (c .before .before .before .before .before .before .args .d) (c .before .before .before .before .before .before .pre .2) (omega (arith, c .before .before .before .before .entry-count .ensures, c .before .before .before .if1 .left)) (c .before .before .entry-dot .ensures) (sym (c .before .before2 .ensures) ∙ c .if2 .taken)
 
-loop-less : tie.Need-loop-less Inv-loop μ-loop
-loop-less c = search needs
+sub-entry-dot : tie.Need-sub-entry-dot
+sub-entry-dot c = search needs
 
-loop-again : tie.Need-loop-again Inv-loop μ-loop
-loop-again c =
-    let a = c .before .before .before .before .before .before .before .args in
-    let s = c .before .before .before .before .loop in
-    upper-half dot-order (s .inv) (s .low + (s .high - s .low) / 2)
-    (omega arith) (omega arith) (ap (λ (x : Dot). dot-before x (a .d)) (sym (c .before .before .entry-dot .ensures)) ∙ sym (c .before .before2 .ensures) ∙ c .if1 .taken)
+entry-dot-requires-2 : tie.Need-entry-dot-requires-2
+entry-dot-requires-2 c κs = search needs
 
-before-requires-2 : tie.Need-before-requires-2 Inv-loop μ-loop
+before-requires-2 : tie.Need-before-requires-2
 before-requires-2 c κs = search needs
 
-returns : tie.Need-returns Inv-loop μ-loop
-returns c =
-    let a = c .before .before .before .before .before .before .before .before .before .args in
-    let s = c .before .before .before .before .before .before .loop in
-    found-at (now (a .b)) (search needs) (a .d) (s .low + (s .high - s .low) / 2)
-    (omega (arith, s .inv .within))
-    (c .before .before .before .before .entry-dot .ensures) (sym (c .before .before .before .before2 .ensures) ∙ c .before .before .if1 .left)
-    (sym (c .before .before3 .ensures) ∙ not-true _ (c .if2 .taken))
+returns-3 : tie.Need-returns-3
+returns-3 c = after-last (now (c .before .before .before .before .before .before .before .before .before .args .b)) (search needs) (c .before .before .before .before .before .before .before .before .before .args .d) (c .before .before .before .before .before .before .before .before .before .pre .2) (c .before .before .before .before .before .before .before .entry-count .result) (c .before .before .before .before .before .before .before .entry-count .ensures) (omega (arith, c .before .before .before .before .before .before .if1 .left)) (c .before .before .entry-dot2 .ensures) (sym (c .before .before3 .ensures) ∙ c .if3 .taken)
 
-loop-less-2 : tie.Need-loop-less-2 Inv-loop μ-loop
-loop-less-2 c = search needs
+search-dot-requires : tie.Need-search-dot-requires
+search-dot-requires c κs = search needs
 
-loop-again-2 : tie.Need-loop-again-2 Inv-loop μ-loop
-loop-again-2 c =
-    let a = c .before .before .before .before .before .before .before .before .before .args in
-    let s = c .before .before .before .before .before .before .loop in
-    lower-half dot-order (s .inv)
-    (s .low + (s .high - s .low) / 2)
-    (omega arith) (omega arith) (ap (dot-before (a .d)) (sym (c .before .before .before .before .entry-dot .ensures)) ∙ sym (c .before .before3 .ensures) ∙ not-false _ (c .if2 .left))
-
-returns-2 : tie.Need-returns-2 Inv-loop μ-loop
-returns-2 c =
-    let a = c .before .before .before .before .args in
-    found-before (now (a .b)) (search needs) (a .d) (c .before .loop .inv) (c .loop-test .left)
+returns-4 : tie.Need-returns-4
+returns-4 c = search needs
 
 pub find-dot-spec : {M : Type 1} → statement M
 find-dot-spec =
     tie.close
     (tie.spec
-    Inv-loop
-    μ-loop
     entry-count-requires
-    cast-high
-    loop-holds
-    sub-mid
-    add-mid
+    cast-count
+    returns
     entry-dot-requires
     before-requires
-    add-low
-    loop-less
-    loop-again
+    returns-2
+    sub-entry-dot
+    entry-dot-requires-2
     before-requires-2
-    returns
-    loop-less-2
-    loop-again-2
-    returns-2)
+    returns-3
+    search-dot-requires
+    returns-4)
