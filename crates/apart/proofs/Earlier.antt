@@ -23,11 +23,11 @@ use Rattle.layout.specs.PointBlock.{form-1, decode-stored}
 use Rattle.laws.proofs.MergeLaws.{has-dot-of, of-has-dot}
 use Rattle.record.proofs.Reading.{version-at}
 use Rattle.apart.specs.Apart.{point-of, apart, apart-from-earlier}
-use Rattle.apart.specs.Marks.{mark-of, marked, with-mark, Noted}
+use Rattle.apart.specs.Marks.{both-marked, with-both, Noted}
 use Rattle.apart.proofs.Lent.{lent}
 use Rattle.block.proofs.Runs.{block-part}
 use Rattle.apart.proofs.Versions.{versions-are}
-use Rattle.apart.proofs.Marking.{marks-length, mark-bound, new-stands, old-stand, unmarked-none, noted-still}
+use Rattle.apart.proofs.Marking.{both-length, new-stand, old-stand, unmarked-none, noted-still}
 
 -- ---- two points
 
@@ -121,7 +121,7 @@ module _ (run : List ℕ) (j : ℕ) where
 pub record Going (run : List ℕ) (j : ℕ) (ms : List ℕ) (i : ℕ) : Type 0 where
   pub passing : Passing (count run j) (fresh run j) i
   pub noted : Noted ms run j
-  pub own : (k : ℕ) → k < i → marked ms (mark-of (dot-at run j k)) ≡ true
+  pub own : (k : ℕ) → k < i → both-marked ms (dot-at run j k) ≡ true
 
 module _ (run : List ℕ) (j : ℕ) (ms : List ℕ) where
   pub none-gone : Noted ms run j → Going run j ms 0
@@ -133,7 +133,7 @@ module _ (run : List ℕ) (j : ℕ) (ms : List ℕ) where
       read : d ≡ dot-at run j i
       read = p ∙ ap (λ (b : List ℕ). version-at b i .dot) (block-part run j)
 
-      unmarked-stands-not : marked ms (mark-of d) ≡ false → stands run j d ≡ false
+      unmarked-stands-not : both-marked ms d ≡ false → stands run j d ≡ false
       unmarked-stands-not f =
           by-points run j d
           ∙ ap not (every-true j (lacks run d) (λ k h. ap not (unmarked-none ms (point-of run k .object .versions) d (G .noted .stand k h) f)))
@@ -144,18 +144,18 @@ module _ (run : List ℕ) (j : ℕ) (ms : List ℕ) where
       abbrev size : length ms ≡ 32
       size = G .noted .size
 
-      one-gone : stands run j d ≡ false → Going run j (with-mark ms (mark-of d)) (i + 1)
+      one-gone : stands run j d ≡ false → Going run j (with-both ms d) (i + 1)
       one-gone f =
           record {
             passing = one-more (G .passing) l (ap not (ap (stands run j) (sym read) ∙ f));
-            noted = record { size = marks-length ms (mark-of d) ∙ size; stand = λ k h. noted-still ms size d (point-of run k .object .versions) (G .noted .stand k h) };
+            noted = record { size = both-length ms d ∙ size; stand = λ k h. noted-still ms d size (point-of run k .object .versions) (G .noted .stand k h) };
             own =
-                below-more _ _ (λ k h. old-stand ms size (mark-of d) (mark-bound d) (mark-of (dot-at run j k)) (G .own k h))
-                (subst (λ (e : Dot). marked (with-mark ms (mark-of d)) (mark-of e) ≡ true) read (new-stands ms size (mark-of d) (mark-bound d)));
+                below-more _ _ (λ k h. old-stand ms d size (dot-at run j k) (G .own k h))
+                (subst (λ (e : Dot). both-marked (with-both ms d) e ≡ true) read (new-stand ms d size));
           }
 
-      -- what was answered of its mark, and the marks then
-      module _ {r : Bool} {next : List ℕ} (said : r ≡ marked ms (mark-of d)) (then : next ≡ with-mark ms (mark-of d)) where
+      -- what was answered of its marks, and the marks then
+      module _ {r : Bool} {next : List ℕ} (said : r ≡ both-marked ms d) (then : next ≡ with-both ms d) where
         pub was-marked : stands run j d ≡ false → Going run j next (i + 1)
         was-marked f = subst (λ (x : List ℕ). Going run j x (i + 1)) (sym then) (one-gone f)
 
@@ -169,9 +169,9 @@ module _ (run : List ℕ) (j : ℕ) (ms : List ℕ) where
       pub all-noted : Noted ms run (j + 1)
       all-noted = record { size = G .noted .size; stand = λ k l. ⊎-elim (G .noted .stand k) (last k) (less-or-same k j l) }
         where
-          last : (k : ℕ) → k ≡ j → all? (λ v. marked ms (mark-of (v .dot))) (point-of run k .object .versions) ≡ true
+          last : (k : ℕ) → k ≡ j → all? (λ v. both-marked ms (v .dot)) (point-of run k .object .versions) ≡ true
           last k e =
-              ap (λ (n : ℕ). all? (λ v. marked ms (mark-of (v .dot))) (point-of run n .object .versions)) e
-              ∙ ap (all? (λ v. marked ms (mark-of (v .dot)))) (versions-are (block-at run j) few)
-              ∙ all-upto (λ v. marked ms (mark-of (v .dot))) (count run j) (version-at (block-at run j))
-              ∙ every-true (count run j) (λ n. marked ms (mark-of (dot-at run j n))) (λ n b. G .own n (omega arith))
+              ap (λ (n : ℕ). all? (λ v. both-marked ms (v .dot)) (point-of run n .object .versions)) e
+              ∙ ap (all? (λ v. both-marked ms (v .dot))) (versions-are (block-at run j) few)
+              ∙ all-upto (λ v. both-marked ms (v .dot)) (count run j) (version-at (block-at run j))
+              ∙ every-true (count run j) (λ n. both-marked ms (dot-at run j n)) (λ n b. G .own n (omega arith))

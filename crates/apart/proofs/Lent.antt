@@ -5,7 +5,6 @@ use mathlib.Core.List.{List}
 use native.Mathlib.Omega.{arith}
 use lib.ListN.{length, take, drop}
 use Rattle.block.specs.Fields.{field}
-use Rattle.block.specs.Block.{block-at}
 use Rattle.block.proofs.Content.{block-length}
 use Rattle.block.proofs.Runs.{block-part}
 use Rattle.apart.specs.Apart.{Few}

@@ -1,5 +1,5 @@
-// "No dot stands in two records", of a run of point blocks, without comparing each with each: the dots passed leave marks, and only one whose
-// mark stands already is looked for.
+// "No dot stands in two records", of a run of point blocks, without comparing each with each: each dot passed leaves two
+// marks, and only one whose marks both stand already is looked for.
 use numbers::Dot;
 ghost use mathlib.Core.Path.{_≡_};
 ghost use mathlib.Core.Bool.{true};
@@ -10,7 +10,7 @@ ghost use Rattle.block.specs.Fields.{field, upto};
 ghost use Rattle.meaning.specs.Object.{has-dot};
 ghost use Rattle.layout.specs.PointBlock.{form-1, decode-stored};
 ghost use Rattle.apart.specs.Apart.{point-of, apart-from-earlier, Few};
-ghost use Rattle.apart.specs.Marks.{mark-of, marked, with-mark, Noted};
+ghost use Rattle.apart.specs.Marks.{marked, with-mark, both-marked, with-both, Noted};
 
 // One of the versions of a point block has this dot.
 pub fn has_version(b: &[u8], d: Dot) -> bool
@@ -44,17 +44,27 @@ pub fn among(points: &[u8], n: usize, d: Dot) -> bool
     false
 }
 
-// Sets the dot's mark, and answers whether it stood there already.
-fn mark(marks: &mut [u64; 32], d: Dot) -> bool
-    ensures { λ r. ⌜ (r ≡ marked (now (marks .entry)) (mark-of d)) × (now (marks .exit) ≡ with-mark (now (marks .entry)) (mark-of d)) ⌝ }
+// Sets mark k, and answers whether it stood there already.
+fn mark(marks: &mut [u64; 32], k: usize) -> bool
+    requires { ⌜ k < 2048 ⌝ }
+    ensures { λ r. ⌜ (r ≡ marked (now (marks .entry)) k) × (now (marks .exit) ≡ with-mark (now (marks .entry)) k) ⌝ }
 {
-    let n = d.who;
-    let c = d.count;
-    let k = 256 * (n.0 as usize % 8) + c.0 as usize % 256;
     let at = k / 64;
     let old = marks[at];
     marks[at] = old | (1u64 << (k % 64));
     (old >> (k % 64)) % 2 == 1
+}
+
+// Sets both marks of the dot, and answers whether both stood there already.
+fn mark_dot(marks: &mut [u64; 32], d: Dot) -> bool
+    ensures { λ r. ⌜ (r ≡ both-marked (now (marks .entry)) d) × (now (marks .exit) ≡ with-both (now (marks .entry)) d) ⌝ }
+{
+    let n = d.who;
+    let c = d.count;
+    let from = 128 * (n.0 as usize % 8);
+    let first = mark(marks, from + c.0 as usize % 128);
+    let second = mark(marks, 1024 + from + c.0 as usize % 127);
+    first && second
 }
 
 // The j-th point shares no dot with one before it. The marks of its own dots are set on the way.
@@ -68,7 +78,7 @@ fn apart_from_earlier(points: &[u8], j: usize, marks: &mut [u64; 32]) -> bool
     let mut i: usize = 0;
     while i < count {
         let d = record::version_dot(b, i);
-        if mark(marks, d) {
+        if mark_dot(marks, d) {
             if among(points, j, d) {
                 return false;
             }

@@ -48,8 +48,8 @@ version-dot-requires c κs =
     let p = c .before .before .before .before .before .pre in
     (lent-size (now (a .points)) (a .j + 1) (a .j) (omega arith) (p .0), omega (arith, (p .1 (a .j) (omega arith)), count-read (now (a .points)) (a .j) (c .before .before .version-count .ensures)))
 
-mark-requires : tie.Need-mark-requires Inv-loop μ-loop
-mark-requires c κs = search needs
+mark-dot-requires : tie.Need-mark-dot-requires Inv-loop μ-loop
+mark-dot-requires c κs = search needs
 
 among-requires : tie.Need-among-requires Inv-loop μ-loop
 among-requires c κs = (omega arith, λ i l. c .before .before .before .before .before .before .before .before .before .pre .1 i (omega arith))
@@ -69,8 +69,8 @@ loop-less c = search needs
 loop-again : tie.Need-loop-again Inv-loop μ-loop
 loop-again c =
     let a = c .before .before .before .before .before .before .before .before .before .args in
-    let next = was-new (now (a .points)) (a .j) (c .before .before .before .before .before .loop .marks) (c .before .before .before .before .before .loop .i) (c .before .before .before .before .before .loop .inv) (omega (arith, count-read (now (a .points)) (a .j) (c .before .before .before .before .before .before .version-count .ensures))) (c .before .before .before .version-dot .result) (c .before .before .before .version-dot .ensures) (c .before .mark .ensures .0) (c .before .mark .ensures .1) in
-    let stays = was-marked (now (a .points)) (a .j) (c .before .before .before .before .before .loop .marks) (c .before .before .before .before .before .loop .i) (c .before .before .before .before .before .loop .inv) (omega (arith, count-read (now (a .points)) (a .j) (c .before .before .before .before .before .before .version-count .ensures))) (c .before .before .before .version-dot .result) (c .before .before .before .version-dot .ensures) (c .before .mark .ensures .0) (c .before .mark .ensures .1) in
+    let next = was-new (now (a .points)) (a .j) (c .before .before .before .before .before .loop .marks) (c .before .before .before .before .before .loop .i) (c .before .before .before .before .before .loop .inv) (omega (arith, count-read (now (a .points)) (a .j) (c .before .before .before .before .before .before .version-count .ensures))) (c .before .before .before .version-dot .result) (c .before .before .before .version-dot .ensures) (c .before .mark-dot .ensures .0) (c .before .mark-dot .ensures .1) in
+    let stays = was-marked (now (a .points)) (a .j) (c .before .before .before .before .before .loop .marks) (c .before .before .before .before .before .loop .i) (c .before .before .before .before .before .loop .inv) (omega (arith, count-read (now (a .points)) (a .j) (c .before .before .before .before .before .before .version-count .ensures))) (c .before .before .before .version-dot .result) (c .before .before .before .version-dot .ensures) (c .before .mark-dot .ensures .0) (c .before .mark-dot .ensures .1) in
     ⊎-elim (λ w. stays (sym (w .1 .ensures) ∙ w .2 .left)) (λ w. next (w .left)) (c .if1 .came)
 
 returns-2 : tie.Need-returns-2 Inv-loop μ-loop
@@ -94,7 +94,7 @@ apart-from-earlier-spec =
     cast-count
     loop-holds
     version-dot-requires
-    mark-requires
+    mark-dot-requires
     among-requires
     returns
     add-i
