@@ -1,5 +1,5 @@
-//! make-seeds FOLDER: writes what the fuzzer begins with: of recorded calls (`second cases`), and of the images that they are made on, some of each
-//! sort, short ones first.
+//! make-seeds FOLDER MANY: writes what the fuzzer begins with: of recorded calls (`second cases`), and of the images that they are made on, so many of
+//! each sort, short ones first.
 
 use fuzz::input::{mended, Input};
 use second::call::{Call, Op};
@@ -12,24 +12,24 @@ use std::{env, fs, io};
 
 const SEED: u64 = 1;
 const CALLS: u64 = 60_000;
-/// How many are kept of each sort.
-const KEPT: usize = 5;
-
 /// What makes two calls of one sort: which call, the answer, whether it counts, whether it changes anything, and whether all checks of its image are right.
 type Sort = (u8, u32, [bool; 3]);
 type Kept = BTreeMap<Sort, Vec<Vec<u8>>>;
 
-/// The second program's calls, of which some are kept as inputs.
-struct Keeping(RefCell<Kept>);
+/// The second program's calls, of which so many of each sort are kept as inputs.
+struct Keeping {
+    many: usize,
+    kept: RefCell<Kept>,
+}
 
 impl Keeping {
     fn keep(&self, sort: Sort, input: Option<Vec<u8>>) {
-        let mut kept = self.0.borrow_mut();
+        let mut kept = self.kept.borrow_mut();
         let here = kept.entry(sort).or_default();
         if let Some(input) = input {
             here.push(input);
             here.sort_by_key(Vec::len);
-            here.truncate(KEPT);
+            here.truncate(self.many);
         }
     }
 
@@ -104,11 +104,12 @@ impl Store for Keeping {
 }
 
 fn main() -> io::Result<()> {
-    let folder = env::args().nth(1).expect("usage: make-seeds FOLDER");
-    fs::create_dir_all(&folder)?;
-    let keeping = Keeping(RefCell::default());
+    let words: Vec<String> = env::args().skip(1).collect();
+    let [folder, many] = &words[..] else { panic!("usage: make-seeds FOLDER MANY") };
+    let keeping = Keeping { many: many.parse().expect("a number"), kept: RefCell::default() };
     cases(&keeping, SEED, CALLS, io::sink())?;
-    for (number, input) in keeping.0.into_inner().into_values().flatten().enumerate() {
+    fs::create_dir_all(folder)?;
+    for (number, input) in keeping.kept.into_inner().into_values().flatten().enumerate() {
         fs::write(format!("{folder}/{number:03}"), input)?;
     }
     Ok(())
