@@ -1,5 +1,5 @@
-//! make-seeds FOLDER MANY: writes what the fuzzer begins with: of recorded calls (`second cases`), and of the images that they are made on, so many of
-//! each sort, short ones first.
+//! make-seeds FOLDER SHORTEST LONGEST: writes what the fuzzer begins with: of recorded calls (`second cases`), and of the images that they are made on, so many
+//! of the shortest and of the longest of each sort.
 
 use fuzz::input::{mended, Input};
 use second::call::{Call, Op};
@@ -12,13 +12,15 @@ use std::{env, fs, io};
 
 const SEED: u64 = 1;
 const CALLS: u64 = 60_000;
+
 /// What makes two calls of one sort: which call, the answer, whether it counts, whether it changes anything, and whether all checks of its image are right.
 type Sort = (u8, u32, [bool; 3]);
 type Kept = BTreeMap<Sort, Vec<Vec<u8>>>;
 
-/// The second program's calls, of which so many of each sort are kept as inputs.
+/// The second program's calls, of which the shortest and the longest of each sort are kept as inputs, so many of each.
 struct Keeping {
-    many: usize,
+    shortest: usize,
+    longest: usize,
     kept: RefCell<Kept>,
 }
 
@@ -29,7 +31,9 @@ impl Keeping {
         if let Some(input) = input {
             here.push(input);
             here.sort_by_key(Vec::len);
-            here.truncate(self.many);
+            if here.len() > self.shortest + self.longest {
+                here.remove(self.shortest);
+            }
         }
     }
 
@@ -105,8 +109,9 @@ impl Store for Keeping {
 
 fn main() -> io::Result<()> {
     let words: Vec<String> = env::args().skip(1).collect();
-    let [folder, many] = &words[..] else { panic!("usage: make-seeds FOLDER MANY") };
-    let keeping = Keeping { many: many.parse().expect("a number"), kept: RefCell::default() };
+    let [folder, shortest, longest] = &words[..] else { panic!("usage: make-seeds FOLDER SHORTEST LONGEST") };
+    let [shortest, longest] = [shortest, longest].map(|many| many.parse().expect("a number"));
+    let keeping = Keeping { shortest, longest, kept: RefCell::default() };
     cases(&keeping, SEED, CALLS, io::sink())?;
     fs::create_dir_all(folder)?;
     for (number, input) in keeping.kept.into_inner().into_values().flatten().enumerate() {
