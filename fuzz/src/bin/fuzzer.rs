@@ -5,6 +5,7 @@
 
 use fuzz::mutate::mutate;
 use second::random::Random;
+use std::arch::global_asm;
 use std::sync::Mutex;
 use std::{env, fs, slice};
 
@@ -12,18 +13,30 @@ unsafe extern "C" {
     /// libFuzzer's own changes: some bytes of the first `size`, of which there may then be up to `max_size`.
     fn LLVMFuzzerMutate(data: *mut u8, size: usize, max_size: usize) -> usize;
     fn atexit(then: extern "C" fn()) -> i32;
-    /// The first of the counters, one for each branch, and what follows the last: the linker gives these names to the ends of a section.
-    static __start___sancov_cntrs: u8;
-    static __stop___sancov_cntrs: u8;
+    /// The first of the counters, one for each branch, and what follows the last.
+    fn first_branch() -> *const u8;
+    fn end_of_branches() -> *const u8;
 }
+
+// The linker gives names to the ends of the section of the counters. They are written in assembly, since what counts branches has these names too, and
+// would come to stand without counters if this module declared them.
+global_asm!(
+    "first_branch: lea __start___sancov_cntrs(%rip), %rax",
+    "ret",
+    "end_of_branches: lea __stop___sancov_cntrs(%rip), %rax",
+    "ret",
+    options(att_syntax)
+);
 
 /// Which branches were taken by any input; libFuzzer sets the counters back before each.
 static TAKEN: Mutex<Vec<u8>> = Mutex::new(Vec::new());
 
 fn note_branches() {
-    let (first, end) = (&raw const __start___sancov_cntrs, &raw const __stop___sancov_cntrs);
     // SAFETY: both are ends of one section of bytes, which nobody changes while this runs: there is one thread.
-    let counters = unsafe { slice::from_raw_parts(first, end.offset_from_unsigned(first)) };
+    let counters = unsafe {
+        let first = first_branch();
+        slice::from_raw_parts(first, end_of_branches().offset_from_unsigned(first))
+    };
     let mut taken = TAKEN.lock().expect("one thread");
     taken.resize(counters.len(), 0);
     taken.iter_mut().zip(counters).for_each(|(taken, counter)| *taken |= u8::from(*counter != 0));
