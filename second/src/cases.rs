@@ -154,7 +154,9 @@ impl<W: Write> Maker<'_, W> {
     /// all 120, there is no place for them; where it is 60, the repair is accepted. Then replies of fewer points and of none.
     fn longest_reply(&mut self) -> io::Result<()> {
         let [one, two, three] = [1, 2, 3].map(|n| Controller::new(n).expect("in range"));
-        for (name, jobs, job_of_three) in [("a reply of 120 points, too many", [7, 0], 0), ("a reply of 120 points", [3, 7], 1)] {
+        for (name, jobs, job_of_three) in
+            [("a reply of 120 points, too many", [7, 0], 0), ("a reply of 120 points", [3, 7], 1)]
+        {
             self.recorder.label(name)?;
             let table = [jobs[0], jobs[1], 0, 0, 0, 0, 0, 0];
             for n in [one, two, three] {
@@ -167,7 +169,9 @@ impl<W: Write> Maker<'_, W> {
                 self.take_in(one, slot::MESSAGES)?;
                 self.write(one, ours, None, &[0; EIGHT], slot::MESSAGES)?;
             }
-            for (asked, asks) in [(one, two), (three, two), (one, two), (one, three), (three, one), (two, one), (one, two)] {
+            for (asked, asks) in
+                [(one, two), (three, two), (one, two), (one, three), (three, one), (two, one), (one, two)]
+            {
                 self.ask(asks, asked.number(), slot::ASKS)?;
                 self.reply(asked, slot::ASKS, slot::REPLIES)?;
                 self.repair(asks, slot::REPLIES)?;
