@@ -1,5 +1,7 @@
 // "No dot stands in two records", of a run of point blocks, without comparing each with each: each dot passed leaves two
 // marks, and only one whose marks both stand already is looked for.
+#![tactic(auto)]
+
 ghost use Rattle.std.specs.Prelude.{◌≡◌, true, ◌+◌, ◌*◌, ◌≤◌, ◌<◌, length};
 ghost use Rattle.numbers.specs.Words.{every, some?};
 ghost use Rattle.block.specs.Fields.{field, upto};

@@ -1,4 +1,6 @@
 // What a message's points bring to an image: which of their versions arrive, what the clock would be, and whether they may be taken at all.
+#![tactic(auto)]
+
 ghost use Rattle.std.specs.Prelude.{◌≡◌, true, false, ◌&&◌, ◌-◌, ◌≤◌, length, ltb};
 ghost use Rattle.numbers.specs.Words.{if◌then◌else◌, ascends?, fold};
 ghost use Rattle.numbers.specs.Numbers.{same_controller, Crew};
@@ -19,7 +21,7 @@ use numbers::{Controller, Counter, Dot, Key};
 use row::{Added, Row};
 
 // A row to which counters are added while they fit, and whether one was left over.
-#[derive(Drop)]
+#[derive(Clone, Copy)]
 pub struct Tried {
     pub row: Row,
     pub left: bool,

@@ -1,11 +1,13 @@
 // A block of 512 bytes: its little-endian fields and its check. Definitions in specs/, laws in proofs/.
+#![tactic(auto)]
+
 ghost use Rattle.std.specs.Prelude.{◌≡◌, ◌+◌, ◌-◌, ◌*◌, ◌≤◌, length, take, replicate, eqb};
 ghost use Rattle.numbers.specs.Words.{all?, same_list};
 ghost use Rattle.block.specs.Fields.{le, cut, splice, field};
 ghost use Rattle.block.specs.Check.{sums, seal, sealed};
 
 // "s1 is the sum modulo 65535, s2 the sum of the running s1 values modulo 65535"
-#[derive(Drop)]
+#[derive(Clone, Copy)]
 pub struct Sums {
     pub s1: u32,
     pub s2: u32,

@@ -1,4 +1,6 @@
 // The checks of a message's point, on the lent bytes alone, before anything of it is taken in: rows 3 to 6, 9 and 10 of the table.
+#![tactic(auto)]
+
 ghost use Rattle.std.specs.Prelude.{◌≡◌, true, not, ◌+◌, ◌*◌, ◌≤◌, ◌<◌, length};
 ghost use Rattle.numbers.specs.Words.{some?, ascends?};
 ghost use Rattle.numbers.specs.Numbers.{Crew};

@@ -1,5 +1,7 @@
 // A block of listed dots, read and edited in the lent bytes.
 // "Kind 2, dots: 4-5 count; 8 on, entries of 8: controller, job, point (2), counter (4)"
+#![tactic(auto)]
+
 ghost use Rattle.std.specs.Prelude.{◌≡◌, true, ◌+◌, ◌*◌, ◌<◌, ◌≤◌, length};
 ghost use Rattle.numbers.specs.Words.{same_list, ascends?};
 ghost use Rattle.numbers.specs.Numbers.{Crew};
@@ -15,7 +17,7 @@ ghost use Rattle.dots.specs.Entries.{right_list, entry_good, FoundIn};
 use numbers::{Controller, Counter, Dot, Key, Point};
 
 // Where a dot is listed, counted from 0, or, where it is not, the place before which it would stand.
-#[derive(Drop)]
+#[derive(Clone, Copy)]
 pub enum Found {
     At(usize),
     Before(usize),

@@ -1,4 +1,6 @@
 // What a controller sends to its peers and takes from them, on a good image.
+#![tactic(auto)]
+
 ghost use Rattle.std.specs.Prelude.{◌≡◌, true, length};
 ghost use Rattle.numbers.specs.Numbers.{controller, Crew};
 ghost use Rattle.meaning.specs.Exchange.{other_peer, ask};

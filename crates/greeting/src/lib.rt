@@ -1,4 +1,6 @@
 // The block that an ask is and that a reply begins with: who sends it, to whom, and the sender's clock.
+#![tactic(auto)]
+
 ghost use Rattle.std.specs.Prelude.{◌≡◌, ◌||◌, length};
 ghost use Rattle.numbers.specs.Words.{all?, same_list};
 ghost use Rattle.numbers.specs.Numbers.{controllers, Crew};

@@ -1,5 +1,7 @@
 // The image's head: who we are, the crew table, the clock rows and the watermark, read and edited in the lent bytes.
 // "Kind 1, image head: 4 own number; 8-15 table; 16-111 eight clock rows; 112-367 watermark, row m then column n, 4 each."
+#![tactic(auto)]
+
 ghost use Rattle.std.specs.Prelude.{◌≡◌, ◌||◌, length};
 ghost use Rattle.numbers.specs.Words.{same_list};
 ghost use Rattle.numbers.specs.Numbers.{Crew, same_controller};

@@ -1,5 +1,7 @@
 // The checks of a reply, on the lent bytes alone, before anything of it is taken in: rows 3 to 6, 9 and 10 of the table. Its points are lent as a
 // run of whole blocks, its head beside them.
+#![tactic(auto)]
+
 ghost use Rattle.std.specs.Prelude.{◌≡◌, true, length};
 ghost use Rattle.numbers.specs.Words.{all?, some?};
 ghost use Rattle.numbers.specs.Numbers.{Crew};

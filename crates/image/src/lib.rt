@@ -1,4 +1,6 @@
 // The whole image of 67 blocks, read and edited in the lent bytes.
+#![tactic(auto)]
+
 ghost use Rattle.std.specs.Prelude.{◌≡◌, true, ◌+◌, ◌≤◌, ◌<◌, length};
 ghost use Rattle.numbers.specs.Words.{every, ascends?};
 ghost use Rattle.numbers.specs.Numbers.{Crew};

@@ -1,4 +1,6 @@
 // The whole image of 67 blocks, edited in the lent bytes, and a stored point as a block of its own.
+#![tactic(auto)]
+
 ghost use Rattle.std.specs.Prelude.{◌≡◌, true, ◌+◌, ◌≤◌, ◌<◌, length};
 ghost use Rattle.numbers.specs.Words.{ascends?};
 ghost use Rattle.numbers.specs.Numbers.{Crew};

@@ -1,5 +1,7 @@
 // A message's point joined to a canonical image in place. The two contexts of the merge stand beside it as eight counters each: `here` is the local
 // one, filled, and `there` the message's.
+#![tactic(auto)]
+
 ghost use Rattle.std.specs.Prelude.{◌≡◌, true, [], ◌≤◌, ◌<◌, length, get_or};
 ghost use Rattle.numbers.specs.Words.{map, ascends?};
 ghost use Rattle.numbers.specs.Numbers.{counter};

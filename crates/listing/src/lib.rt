@@ -1,4 +1,6 @@
 // The printed text of an image, made in a lent buffer. Each `put_` writes its text from `at` on and answers where it ends.
+#![tactic(auto)]
+
 ghost use Rattle.std.specs.Prelude.{◌≡◌, [], ◌∷◌, ◌++◌, ◌+◌, ◌*◌, ◌≤◌, ◌<◌, min, length, take, drop};
 ghost use Rattle.numbers.specs.Words.{concat_map};
 ghost use Rattle.block.specs.Fields.{cut};

@@ -1,5 +1,7 @@
 // The points of a reply, merged in place one after the other. `points` are the reply's blocks behind its head, `clock`
 // the sender's rows, with which the reply's objects are filled, and `rows` those that the step will leave.
+#![tactic(auto)]
+
 ghost use Rattle.std.specs.Prelude.{◌≡◌, true, ◌/◌, ◌≤◌, length, take, eqb};
 ghost use Rattle.numbers.specs.Words.{if◌then◌else◌, map, ascends?, fold};
 ghost use Rattle.numbers.specs.Numbers.{counter};

@@ -1,6 +1,8 @@
 // Merging a message's point into a point block of the lent bytes, in place, and the questions by which such a merge is judged before it is made.
 // A context stands beside its block as eight counters: `here` is the local one, filled by our clock, and `there` the message's, which a repair
 // has filled with the sender's.
+#![tactic(auto)]
+
 ghost use Rattle.std.specs.Prelude.{◌≡◌, true, ◌||◌, ◌&&◌, not, ◌+◌, ◌*◌, ◌≤◌, ◌<◌, max, length};
 ghost use Rattle.numbers.specs.Words.{map, some?, ascends?, place_all};
 ghost use Rattle.numbers.specs.Numbers.{counter, Crew};

@@ -1,4 +1,6 @@
 // The calls with messages: take in, ask, reply, repair. Check, judge, apply: no lent byte is written before every refusal is excluded.
+#![tactic(auto)]
+
 ghost use Rattle.std.specs.Prelude.{◌≡◌, ◌<◌, ◌&&◌, length, leb};
 ghost use Rattle.layout.specs.Calls.{one_block, reply_room, whole_reply};
 ghost use Rattle.opening.specs.Contracts.{TakesIn, Asks, Replies, Repairs};

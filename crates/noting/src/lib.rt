@@ -1,5 +1,7 @@
 // The dots that arrive new with a message's points, put into the list of foreign dots.
 // "Version dots new to the clock are listed with their point, own ones always, foreign ones in order of controller and counter while there is room."
+#![tactic(auto)]
+
 ghost use Rattle.std.specs.Prelude.{◌≡◌, true, not, ◌≤◌, ◌<◌, length};
 ghost use Rattle.numbers.specs.Words.{all?, ascends?, place};
 ghost use Rattle.numbers.specs.Numbers.{Crew};
@@ -20,7 +22,7 @@ use dots::Found;
 use numbers::{Controller, Counter, Dot, Key};
 
 // The next dot to be listed, with its point, or that there is none.
-#[derive(Drop)]
+#[derive(Clone, Copy)]
 pub enum Next {
     At(Dot, Key),
     Nothing,

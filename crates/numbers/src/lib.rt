@@ -1,29 +1,31 @@
 // "Controller numbers, counters and point numbers are kept apart": each is a type of its own, here and in every definition.
+#![tactic(auto)]
+
 ghost use Rattle.std.specs.Prelude.{◌≡◌};
 ghost use Rattle.numbers.specs.Dot.{same_dot, dot_before};
 ghost use Rattle.numbers.specs.Key.{same_key, key_before};
 
 // A controller number, 1 to 8.
-#[derive(Drop)]
+#[derive(Clone, Copy)]
 pub struct Controller(pub u8);
 
 // A counter, 1 to 4,294,967,295; as an entry of a context, 0 for none.
-#[derive(Drop)]
+#[derive(Clone, Copy)]
 pub struct Counter(pub u32);
 
 // A point number, 1 to 65,535, within a job.
-#[derive(Drop)]
+#[derive(Clone, Copy)]
 pub struct Point(pub u16);
 
 // "A dot is a controller number and a counter": the name of one write.
-#[derive(Drop)]
+#[derive(Clone, Copy)]
 pub struct Dot {
     pub who: Controller,
     pub count: Counter,
 }
 
 // A point of the crew: its job, 0 to 7, and its number within the job.
-#[derive(Drop)]
+#[derive(Clone, Copy)]
 pub struct Key {
     pub job: u8,
     pub point: Point,

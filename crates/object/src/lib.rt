@@ -1,4 +1,6 @@
 // Fill, strip, and what goes of a point's versions, in one point block of the lent bytes. The block's check is made after the last of them.
+#![tactic(auto)]
+
 ghost use Rattle.std.specs.Prelude.{◌≡◌, true, not, ◌≤◌, ◌<◌, max, length, leb, ltb};
 ghost use Rattle.numbers.specs.Words.{if◌then◌else◌, keep, map, some?, ascends?, place};
 ghost use Rattle.numbers.specs.Numbers.{counter, controllers, Crew};

@@ -1,4 +1,6 @@
 // What a call begins with: rows 1 and 2 of the table, and row 5 of a point.
+#![tactic(auto)]
+
 ghost use Rattle.std.specs.Prelude.{◌≡◌, ◌<◌, length};
 ghost use Rattle.numbers.specs.Numbers.{Crew};
 ghost use Rattle.numbers.specs.Key.{key};
@@ -67,7 +69,7 @@ pub fn admit(image: &[u8], lengths: bool, k: Key) -> Verdict
 }
 
 // What a call with a count answers.
-#[derive(Drop)]
+#[derive(Clone, Copy)]
 pub struct Tally {
     pub verdict: Verdict,
     pub count: u32,

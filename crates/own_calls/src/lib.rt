@@ -1,4 +1,6 @@
 // The calls on the own image: read, write, delete, strip pass. Check, judge, apply: no lent byte is written before every refusal is excluded.
+#![tactic(auto)]
+
 ghost use Rattle.std.specs.Prelude.{◌≡◌, ◌<◌, true, ◌&&◌, length, eqb};
 ghost use Rattle.numbers.specs.Key.{key};
 ghost use Rattle.meaning.specs.State.{local};

@@ -1,4 +1,6 @@
 // The crew table and the clock rows as lent parts, of an image's head or of a message: who holds which job, and what was seen.
+#![tactic(auto)]
+
 ghost use Rattle.std.specs.Prelude.{◌≡◌, length};
 ghost use Rattle.numbers.specs.Numbers.{Crew};
 ghost use Rattle.meaning.specs.CrewTable.{holds};

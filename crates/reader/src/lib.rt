@@ -1,5 +1,7 @@
 // A reply's points one after the other: a thin reader over the lent bytes and a position. Each function over it takes it apart and
 // leaves the work to one on the slice and the number, so that only these few are proved by a walk.
+#![tactic(auto)]
+
 ghost use Rattle.std.specs.Prelude.{◌≡◌, ◌+◌, ◌*◌, ◌-◌, ◌<◌, ◌≤◌, length};
 ghost use Rattle.block.specs.Block.{block_at};
 ghost use Rattle.reader.specs.Reading.{points_in, at_start, next_after};

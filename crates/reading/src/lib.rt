@@ -1,5 +1,7 @@
 // Repair takes the reply through the reader: "The repair takes it as a reader that hands out one point's block at a time" (document 01). Both functions hold
 // a reader, so each is proved by a walk; the work stands in repairing, on the lent bytes and the position.
+#![tactic(auto)]
+
 ghost use Rattle.std.specs.Prelude.{◌≡◌};
 ghost use Rattle.reading.specs.Reading.{Repairable, Repairs};
 

@@ -1,4 +1,6 @@
 // A point block, stored or sent, read and edited in the lent bytes.
+#![tactic(auto)]
+
 ghost use Rattle.std.specs.Prelude.{◌≡◌, true, ◌||◌, [], ◌∷◌, ◌+◌, ◌-◌, ◌*◌, ◌≤◌, ◌<◌, length, eqb};
 ghost use Rattle.numbers.specs.Words.{same_list, every, all?};
 ghost use Rattle.numbers.specs.Numbers.{controller, is_controller, Crew};

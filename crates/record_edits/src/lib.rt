@@ -1,4 +1,6 @@
 // A point block, stored or sent, edited in the lent bytes, and a version in hand.
+#![tactic(auto)]
+
 ghost use Rattle.std.specs.Prelude.{◌≡◌, ◌+◌, ◌-◌, ◌*◌, ◌≤◌, ◌<◌, length};
 ghost use Rattle.numbers.specs.Numbers.{Crew};
 ghost use Rattle.block.specs.Fields.{insert_at, remove_at};

@@ -1,8 +1,10 @@
 // Why a call says no: one constructor for each row of document 01's table, in the table's order.
+#![tactic(auto)]
+
 ghost use Rattle.std.specs.Prelude.{◌≡◌};
 ghost use Rattle.refusal.specs.Refusal.{number, answer_number};
 
-#[derive(Drop)]
+#[derive(Clone, Copy)]
 pub enum Refusal {
     // 1: a lent buffer has the wrong length
     WrongLength,
@@ -62,7 +64,7 @@ impl Refusal {
 }
 
 // What a call answers.
-#[derive(Drop)]
+#[derive(Clone, Copy)]
 pub enum Verdict {
     Accepted,
     Refused(Refusal),

@@ -1,4 +1,6 @@
 // Repair, on a good image: judged on the lent bytes, then made in place. A reply is lent as its head, one block, and its points' blocks behind it.
+#![tactic(auto)]
+
 ghost use Rattle.std.specs.Prelude.{◌≡◌, true, [], length, take, ◌/◌, ◌≤◌};
 ghost use Rattle.numbers.specs.Words.{map};
 ghost use Rattle.refusal.specs.declared.Verdict.TheVariants.{Accepted};

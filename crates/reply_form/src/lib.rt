@@ -1,4 +1,6 @@
 // Rows 3 and 4 of the table for a reply: its checks, its layout, and what is well-formed in it.
+#![tactic(auto)]
+
 ghost use Rattle.std.specs.Prelude.{◌≡◌, true, ◌/◌, ◌≤◌, ◌<◌, length};
 ghost use Rattle.numbers.specs.Words.{ascends?};
 ghost use Rattle.meaning.specs.State.{stored_before};

@@ -1,4 +1,6 @@
 // A reply, on a good image: the ask is judged, then the points that the asker lacks are written, and then the head.
+#![tactic(auto)]
+
 ghost use Rattle.std.specs.Prelude.{◌≡◌, true, ◌*◌, ◌≤◌, ◌<◌, length, ltb};
 ghost use Rattle.numbers.specs.Words.{keep};
 ghost use Rattle.numbers.specs.Numbers.{Crew, same_controller};
@@ -88,7 +90,7 @@ pub fn judge_ask(image: &[u8], message: &[u8]) -> Verdict
 // ---- the points that the asker lacks, one after the other
 
 // The next point to be sent, or that there is none.
-#[derive(Drop)]
+#[derive(Clone, Copy)]
 pub enum Next {
     At(Key),
     Nothing,

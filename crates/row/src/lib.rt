@@ -1,18 +1,20 @@
 // A clock row, a value: "a base b (1..b all seen) and 64 bits, bit j standing for counter b+1+j".
+#![tactic(auto)]
+
 ghost use Rattle.std.specs.Prelude.{◌≡◌, true, ◌/◌, ◌^◌, ◌≤◌};
 ghost use Rattle.numbers.specs.Numbers.{last_counter};
 ghost use Rattle.row.specs.Row.{has, add_up, unite, advanced, sound};
 
 use numbers::Counter;
 
-#[derive(Drop)]
+#[derive(Clone, Copy)]
 pub struct Row {
     pub base: u32,
     pub bits: u64,
 }
 
 // What adding a counter answers: the new row, or that the counter is too far ahead (refusal 11).
-#[derive(Drop)]
+#[derive(Clone, Copy)]
 pub enum Added {
     Now(Row),
     TooFar,

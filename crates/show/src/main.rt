@@ -1,4 +1,6 @@
 // "The program reads standard input as an image" and prints it, or why not.
+#![tactic(auto)]
+
 use libc::{STDIN_FILENO, STDOUT_FILENO};
 
 fn main() {

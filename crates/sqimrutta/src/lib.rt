@@ -1,4 +1,6 @@
 // The library as C links it: each call, its answer told as document 01's number.
+#![tactic(auto)]
+
 ghost use Rattle.std.specs.Prelude.{◌≡◌};
 ghost use Rattle.numbers.specs.Words.{if◌then◌else◌};
 ghost use Rattle.refusal.specs.Refusal.{answer_number};

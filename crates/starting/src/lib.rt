@@ -1,4 +1,6 @@
 // Start: a fresh image, on lent buffers.
+#![tactic(auto)]
+
 ghost use Rattle.std.specs.Prelude.{◌≡◌, ◌<◌, [], length};
 ghost use Rattle.numbers.specs.Numbers.{controller};
 ghost use Rattle.meaning.specs.OwnSteps.{fresh};

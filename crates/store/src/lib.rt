@@ -1,4 +1,6 @@
 // Records of an image put anew, from one canonical image to another.
+#![tactic(auto)]
+
 ghost use Rattle.std.specs.Prelude.{◌≡◌, true, ◌≤◌, ◌<◌, length, get_or};
 ghost use Rattle.numbers.specs.Words.{ascends?};
 ghost use Rattle.block.specs.Fields.{put_at, insert_at};

@@ -1,5 +1,7 @@
 // Take in, on a good image: judged on the lent bytes, then merged in place. The two contexts of a merge stand beside it as eight counters each:
 // `here` is the local one, filled, and `there` the message's.
+#![tactic(auto)]
+
 ghost use Rattle.std.specs.Prelude.{◌≡◌, true, [], ◌∷◌, ◌<◌, length};
 ghost use Rattle.numbers.specs.Words.{map};
 ghost use Rattle.numbers.specs.Numbers.{counter};

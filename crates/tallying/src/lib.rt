@@ -1,5 +1,7 @@
 // The points of a reply, judged on the lent image: rows 12 and 13 of the table. `points` are the reply's blocks behind its head, `clock`
 // the sender's rows, with which the reply's objects are filled, and `rows` those that the step will leave.
+#![tactic(auto)]
+
 ghost use Rattle.std.specs.Prelude.{◌≡◌, true, ◌≤◌, ◌/◌, length, take};
 ghost use Rattle.numbers.specs.Words.{map, ascends?};
 ghost use Rattle.refusal.specs.Refusal.{verdict_of};
@@ -18,7 +20,7 @@ use refusal::{Refusal, Verdict};
 // ---- one point
 
 // What is asked of it: whether it has more than 8 versions in the end, whether it comes to a record or loses its own.
-#[derive(Drop)]
+#[derive(Clone, Copy)]
 struct Weight {
     many: bool,
     comes: bool,
@@ -61,7 +63,7 @@ fn weigh_point(image: &[u8], count: usize, b: &[u8], clock: &[u8], rows: &[u8]) 
 // ---- all of them: 12 and 13
 
 // Whether one has too many versions, how many come to a record and how many lose theirs.
-#[derive(Drop)]
+#[derive(Clone, Copy)]
 struct Weights {
     many: bool,
     coming: usize,

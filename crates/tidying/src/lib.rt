@@ -1,4 +1,6 @@
 // The end of a repair, in the lent bytes: the watermark raised, and then the removal of the listed dots that all know.
+#![tactic(auto)]
+
 ghost use Rattle.std.specs.Prelude.{◌≡◌, true, false, not, ◌≤◌, ◌<◌, length, get_or};
 ghost use Rattle.numbers.specs.Words.{keep};
 ghost use Rattle.numbers.specs.Numbers.{Crew, same_controller};

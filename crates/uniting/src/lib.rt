@@ -1,5 +1,7 @@
 // The rows that a repair leaves: "the sender's row about itself is united with ours", and what arrives with the reply's points enters them. They are
 // made beside the image, which is as it was until they are known to fit.
+#![tactic(auto)]
+
 ghost use Rattle.std.specs.Prelude.{◌≡◌, true, length};
 ghost use Rattle.numbers.specs.Numbers.{Crew};
 ghost use Rattle.row.specs.Row.{fits, sound};

@@ -1,5 +1,7 @@
 // What a message's point would make of a good image, judged on the lent bytes. The two contexts of a merge stand beside it as eight counters each:
 // `here` is the local one, filled, and `there` the message's.
+#![tactic(auto)]
+
 ghost use Rattle.std.specs.Prelude.{◌≡◌, true, ◌&&◌, ◌<◌, length, ltb};
 ghost use Rattle.numbers.specs.Words.{map, ascends?};
 ghost use Rattle.numbers.specs.Numbers.{counter};

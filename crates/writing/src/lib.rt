@@ -1,4 +1,6 @@
 // A write and a delete: judged on the lent image, then made: the message, the clock, the list, the record.
+#![tactic(auto)]
+
 ghost use Rattle.std.specs.Prelude.{[], ◌∷◌, ◌≡◌, Bool, true, false, ◌&&◌, ◌≤◌, ◌<◌, length, leb};
 ghost use Rattle.numbers.specs.Words.{map};
 ghost use Rattle.numbers.specs.Numbers.{counter, last_counter};
