@@ -1,0 +1,14 @@
+-- `apart::has_version` meets its contract. The invariant is `Passing`: the versions before i have other dots (Versions). Assumes nothing.
+use borrow.Author.Rules.{rules}
+use Prim.Native.Nat.{◌-◌}
+use Rattle.block.specs.Fields.{field}
+use Rattle.block.proofs.Passing.{Passing, none_passed}
+use Rattle.apart.proofs.Versions.{another, has_it, not_yet, has_none}
+use native.Mathlib.Omega.{arith}
+use Rattle.apart.proofs.has_version.Given as goal
+
+abbrev pub invariant-loop-i : goal.invariant-loop-i
+invariant-loop-i l = Passing (field l.b 5 1) (another l.b l.d) l.i
+
+abbrev pub decreases-loop-i : goal.decreases-loop-i
+decreases-loop-i l = l.count - l.i

@@ -1,0 +1,16 @@
+-- `block::move_down` meets its contract. The invariant: what is moved so far (Moves). Assumes nothing.
+use Prim.Native.Nat.{◌-◌}
+use native.Mathlib.Omega.{arith}
+use Rattle.block.proofs.Numbers.{bytes_of}
+use Rattle.block.proofs.Moves.{MovedTo, from_start, next_above, all_to}
+use Rattle.block.proofs.move_down.Reads as reads
+use Rattle.block.proofs.move_down.Lts as lts
+use Rattle.block.proofs.put_u64.Reads as put-u64-reads
+use Rattle.block.proofs.u64_at.Reads as u64-at-reads
+use Rattle.block.proofs.move_down.Given as goal
+
+abbrev pub invariant-loop-k : goal.invariant-loop-k
+invariant-loop-k l = MovedTo l.initial.run l.from l.to l.words l.k l.run
+
+abbrev pub decreases-loop-k : goal.decreases-loop-k
+decreases-loop-k l = l.words - l.k

@@ -1,0 +1,16 @@
+-- `block::move_up` meets its contract. The invariant: what is moved so far (Moves). Assumes nothing.
+use Prim.Native.Nat.{◌-◌}
+use native.Mathlib.Omega.{arith}
+use Rattle.block.proofs.Numbers.{bytes_of}
+use Rattle.block.proofs.Moves.{MovedFrom, from_end, next_below, all_from}
+use Rattle.block.proofs.move_up.Reads as reads
+use Rattle.block.proofs.move_up.Lts as lts
+use Rattle.block.proofs.put_u64.Reads as put-u64-reads
+use Rattle.block.proofs.u64_at.Reads as u64-at-reads
+use Rattle.block.proofs.move_up.Given as goal
+
+abbrev pub invariant-loop-k : goal.invariant-loop-k
+invariant-loop-k l = MovedFrom l.initial.run l.from l.to l.words l.k l.run
+
+abbrev pub decreases-loop-k : goal.decreases-loop-k
+decreases-loop-k l = l.k

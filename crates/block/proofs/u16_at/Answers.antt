@@ -1,0 +1,8 @@
+-- `block::u16_at` meets its contract. Two reads of half the width (Halves). Assumes nothing.
+use native.Mathlib.Omega.{arith}
+use Rattle.block.proofs.Halves.{read_halves}
+use borrow.Author.Rules.{rules}
+use Rattle.block.proofs.u16_at.Goals as goal
+
+pub returns : goal.returns
+returns c = let a = c.args in read_halves 1 1 a.b.now a.at (omega arith) c.u8_at.ensures c.u8_at-2.ensures

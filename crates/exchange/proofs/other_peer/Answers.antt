@@ -1,0 +1,21 @@
+-- `exchange::other_peer` meets its contract. By the parts that were lent (Asking). Assumes nothing.
+use Prim.Native.Nat.{◌-◌}
+use mathlib.Core.Path.{sym, ◌∙◌, subst}
+use Rattle.numbers.specs.Numbers.{Crew}
+use Rattle.store.proofs.Lent.{own_part, own_is_crew}
+use Rattle.exchange.proofs.Asking.{not_ourselves, by_table}
+use borrow.Author.Rules.{rules}
+use Rattle.exchange.proofs.other_peer.Reads as reads
+use Rattle.exchange.proofs.other_peer.Lts as lts
+use Rattle.head.proofs.own_of.Reads as own-of-reads
+use Rattle.head.proofs.peers.Reads as peers-reads
+use Rattle.exchange.proofs.other_peer.Goals as goal
+
+pub returns-then-m-own : goal.returns-then-m-own
+returns-then-m-own c = not_ourselves c.args.image.now c.requires.0 c.own_of-own.result c.args.m c.own_of-own.ensures c.if-m-own.true
+
+pub peers-requires : goal.peers-requires
+peers-requires c = (search rules, subst Crew (sym (c.own_of-own.ensures ∙ own_part c.args.image.now c.requires.0)) (own_is_crew c.args.image.now c.requires.1), c.requires.2)
+
+pub returns : goal.returns
+returns c = by_table c.args.image.now c.requires.0 c.own_of-own.result c.args.m c.own_of-own.ensures c.if-m-own.false c.peers.result c.peers.ensures

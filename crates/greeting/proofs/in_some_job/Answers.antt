@@ -1,0 +1,11 @@
+-- `greeting::in_some_job` meets its contract. A job that it shares with itself (Formed). Assumes nothing.
+use mathlib.Core.Path.{◌∙◌}
+use Rattle.greeting.proofs.Formed.{one_job}
+use borrow.Author.Rules.{rules}
+use Rattle.greeting.proofs.in_some_job.Reads as reads
+use Rattle.greeting.proofs.in_some_job.Lts as lts
+use Rattle.head.proofs.shares_job.Reads as shares-job-reads
+use Rattle.greeting.proofs.in_some_job.Goals as goal
+
+pub returns : goal.returns
+returns c = c.shares_job.ensures ∙ one_job c.args.table.now c.args.n

@@ -1,0 +1,17 @@
+-- `greeting::write_greeting` meets its contract. Store by store (Stores). Assumes nothing.
+use Prim.Native.Nat.{◌-◌}
+use native.Mathlib.Omega.{arith}
+use Rattle.block.proofs.Numbers.{bytes_of}
+use Rattle.greeting.proofs.Stores.{greeting_is}
+use borrow.Author.Rules.{rules}
+use Rattle.greeting.proofs.write_greeting.Reads as reads
+use Rattle.greeting.proofs.write_greeting.Lts as lts
+use Rattle.block.proofs.clear.Reads as clear_reads
+use Rattle.block.proofs.copy_in.Reads as copy-in-reads
+use Rattle.block.proofs.put_u16.Reads as put-u16-reads
+use Rattle.block.proofs.put_u8.Reads as put-u8-reads
+use Rattle.block.proofs.seal_block.Reads as seal-block-reads
+use Rattle.greeting.proofs.write_greeting.Goals as goal
+
+pub returns : goal.returns
+returns c = greeting_is c.args.kind c.args.points c.args.sender c.args.addressee c.args.rows.now c.args.b.now _ _ _ _ _ _ _ _ c.requires.0 c.requires.1 (bytes_of c.args.rows.now c.type_inv.rows) c.clear.ensures c.put_u8.ensures c.put_u8-2.ensures c.put_u8-3.ensures c.put_u8-4.ensures c.put_u16.ensures c.copy_in.ensures c.seal_block.ensures

@@ -1,0 +1,16 @@
+-- `head::rows_sound` meets its contract. The invariant: the rows before n pass (Rounds). Assumes nothing.
+use borrow.Author.Rules.{rules}
+use Prim.Native.Nat.{◌-◌}
+use mathlib.Core.Path.{sym, ap, ◌∙◌}
+use borrow.Author.Tests.{not-true, not-false}
+use Rattle.head.proofs.Rounds.{PassedTo, none_yet, one_more, all_done, one_fails}
+use Rattle.meaning.specs.Clock.{row, every_row}
+use Rattle.layout.specs.Clocks.{decode_clock}
+use Rattle.head.specs.HeadParts.{row_good}
+use Rattle.head.proofs.rows_sound.Given as goal
+
+abbrev pub invariant-loop-n : goal.invariant-loop-n
+invariant-loop-n l = PassedTo (λ m. row_good (row (decode_clock l.rows) m)) l.n
+
+abbrev pub decreases-loop-n : goal.decreases-loop-n
+decreases-loop-n l = 9 - l.n

@@ -1,0 +1,13 @@
+use native.Mathlib.Omega.{arith}
+use Prim.Native.Nat.{◌≤◌, ◌-◌}
+use Rattle.image.proofs.Counted.{Kinds, no_kinds, more_kinds, ends_here, all_stored}
+use Rattle.image.proofs.stored_count.Reads as reads
+use Rattle.image.proofs.stored_count.Lts as lts
+use Rattle.block.proofs.u8_at.Reads as u8-at-reads
+use Rattle.image.proofs.stored_count.Given as goal
+
+abbrev pub invariant-loop-n : goal.invariant-loop-n
+invariant-loop-n l = (l.n ≤ 64) × Kinds l.image l.n
+
+abbrev pub decreases-loop-n : goal.decreases-loop-n
+decreases-loop-n l = 64 - l.n

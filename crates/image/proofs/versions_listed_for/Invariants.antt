@@ -1,0 +1,21 @@
+use native.Mathlib.Omega.{arith}
+use Prim.Native.Nat.{◌-◌}
+use mathlib.Core.Path.{◌≡◌}
+use Rattle.block.specs.Fields.{field}
+use Rattle.block.proofs.Passing.{Passing, none_passed, one_more, one_fails, all_passed, said_no, said_yes}
+use Rattle.layout.specs.PointBlock.{form_1, decode_point}
+use Rattle.layout.specs.Image.{decode_dots}
+use Rattle.image.proofs.ListedFor.{slot_listed, slot_is, listed_all}
+use Rattle.image.proofs.versions_listed_for.Reads as reads
+use Rattle.image.proofs.versions_listed_for.Lts as lts
+use Rattle.image.proofs.dot_listed_for.Reads as dot-listed-for-reads
+use Rattle.record.proofs.key_of.Reads as key-of-reads
+use Rattle.record.proofs.version_count.Reads as version-count-reads
+use Rattle.record.proofs.version_dot.Reads as version-dot-reads
+use Rattle.image.proofs.versions_listed_for.Given as goal
+
+abbrev pub invariant-loop-i : goal.invariant-loop-i
+invariant-loop-i l = (l.count ≡ field l.b 5 1) × Passing l.count (slot_listed (decode_dots l.list) l.b) l.i
+
+abbrev pub decreases-loop-i : goal.decreases-loop-i
+decreases-loop-i l = l.count - l.i

@@ -1,0 +1,38 @@
+-- `image::fetch` meets its contract. The record that was found, or the empty object (Fetching). Assumes nothing.
+use Prim.Native.Nat.{◌-◌}
+use native.Mathlib.Omega.{arith}
+use Rattle.block.proofs.Numbers.{bytes_of}
+use Rattle.image_edits.proofs.Blocks.{image_decoded}
+use Rattle.image_edits.proofs.Fetching.{search_ascends, search_few, found_inside, copied_laid, fetched, fetched_none}
+use borrow.Author.Rules.{rules}
+use Rattle.image_edits.proofs.fetch.Reads as reads
+use Rattle.image_edits.proofs.fetch.Lts as lts
+use Rattle.block.proofs.copy_in.Reads as copy-in-reads
+use Rattle.image.proofs.find_point.Reads as find-point-reads
+use Rattle.record_edits.proofs.relabel.Reads as relabel-reads
+use Rattle.record_edits.proofs.write_empty.Reads as write-empty-reads
+use Rattle.image_edits.proofs.fetch.Goals as goal
+
+pub find_point-requires : goal.find_point-requires
+find_point-requires c = let img = c.args.image.now in let small = bytes_of c.args.image.now c.type_inv.image in let p = c.requires in let a = c.args in (p.0, search_few img small p.0 p.1 a.count p.2, search_ascends img small p.0 p.1 a.count p.2 p.3)
+
+pub overflow_add-at : goal.overflow_add-at
+overflow_add-at c = let img = c.args.image.now in let small = bytes_of c.args.image.now c.type_inv.image in let p = c.requires in let a = c.args in omega (arith, (image_decoded img small p.0).few, found_inside img small p.0 p.1 a.count p.2 p.3 a.k a.kind a.sender c.find_point.result c.find_point.ensures c.i-1.given.0.0 c.i-1.given.1)
+
+pub overflow_mul-at : goal.overflow_mul-at
+overflow_mul-at c = let img = c.args.image.now in let small = bytes_of c.args.image.now c.type_inv.image in let p = c.requires in let a = c.args in omega (arith, (image_decoded img small p.0).few, found_inside img small p.0 p.1 a.count p.2 p.3 a.k a.kind a.sender c.find_point.result c.find_point.ensures c.i-1.given.0.0 c.i-1.given.1)
+
+pub overflow_add-at-in-At : goal.overflow_add-at-in-At
+overflow_add-at-in-At c = let img = c.args.image.now in let small = bytes_of c.args.image.now c.type_inv.image in let p = c.requires in let a = c.args in omega (arith, (image_decoded img small p.0).few, found_inside img small p.0 p.1 a.count p.2 p.3 a.k a.kind a.sender c.find_point.result c.find_point.ensures c.i-1.given.0.0 c.i-1.given.1)
+
+pub slice_bounds-copy_in-end : goal.slice_bounds-copy_in-end
+slice_bounds-copy_in-end c = let img = c.args.image.now in let small = bytes_of c.args.image.now c.type_inv.image in let p = c.requires in let a = c.args in omega (arith, (image_decoded img small p.0).few, found_inside img small p.0 p.1 a.count p.2 p.3 a.k a.kind a.sender c.find_point.result c.find_point.ensures c.i-1.given.0.0 c.i-1.given.1)
+
+pub relabel-requires : goal.relabel-requires
+relabel-requires c = let img = c.args.image.now in let small = bytes_of c.args.image.now c.type_inv.image in let p = c.requires in let a = c.args in (omega arith, copied_laid img small p.0 p.1 a.count p.2 p.3 a.k a.kind a.sender c.find_point.result c.find_point.ensures c.i-1.given.0.0 c.i-1.given.1 a.out.now _ p.4 c.copy_in.ensures)
+
+pub returns-in-At : goal.returns-in-At
+returns-in-At c = let img = c.args.image.now in let small = bytes_of c.args.image.now c.type_inv.image in let p = c.requires in let a = c.args in fetched img small p.0 p.1 a.count p.2 p.3 a.k a.kind a.sender c.find_point.result c.find_point.ensures c.i-1.given.0.0 c.i-1.given.1 a.out.now _ p.4 c.copy_in.ensures _ c.relabel.ensures
+
+pub returns-in-Before : goal.returns-in-Before
+returns-in-Before c = let img = c.args.image.now in let small = bytes_of c.args.image.now c.type_inv.image in let p = c.requires in let a = c.args in fetched_none img small p.0 p.1 a.count p.2 p.3 a.k a.kind a.sender c.find_point.result c.find_point.ensures c.enum_told-1.given.0.0 c.enum_told-1.given.1 _ (omega arith) (search rules) (search rules) (search rules) c.write_empty.ensures

@@ -1,0 +1,21 @@
+-- `image::open_place` meets its contract. The invariant: which blocks stand one further up (Opening). Assumes nothing.
+use Prim.Native.Nat.{◌-◌}
+use native.Mathlib.Omega.{arith}
+use Rattle.block.proofs.Numbers.{bytes_of}
+use Rattle.layout.specs.Image.{decode}
+use Rattle.image_edits.proofs.Blocks.{image_decoded, canonical_blocks}
+use mathlib.Core.Path.{refl}
+use Rattle.image_edits.proofs.Opening.{Opening, opening_none, opening_size, opening_laid, opening_more, opened}
+use borrow.Author.Rules.{rules}
+use Rattle.image_edits.proofs.open_place.Reads as reads
+use Rattle.image_edits.proofs.open_place.Lts as lts
+use Rattle.block.proofs.move_up.Reads as move-up-reads
+use Rattle.record_edits.proofs.renumber.Reads as renumber-reads
+use Rattle.record_edits.proofs.write_empty.Reads as write-empty-reads
+use Rattle.image_edits.proofs.open_place.Given as goal
+
+abbrev pub invariant-loop-to : goal.invariant-loop-to
+invariant-loop-to l = Opening (decode l.initial.image) l.i l.to l.image
+
+abbrev pub decreases-loop-to : goal.decreases-loop-to
+decreases-loop-to l = l.to - l.i

@@ -1,0 +1,20 @@
+-- `message_calls::ask` meets its contract. Refused by rows 1 and 2, or what the step answers (Asking). Assumes nothing.
+use Prim.Native.Nat.{◌-◌}
+use mathlib.Core.Path.{ap, sym, ◌∙◌}
+use borrow.Author.Tests.{eqb-true}
+use lib.ListN.{length}
+use Rattle.layout.specs.Calls.{After, one_block}
+use Rattle.opening.proofs.Ladder.{what_is_opened}
+use Rattle.message_calls.proofs.Asking.{ask_refused, ask_goes_on}
+use borrow.Author.Rules.{rules}
+use Rattle.exchange.proofs.ask_at.Reads as ask-at-reads
+use Rattle.message_calls.proofs.ask.Goals as goal
+
+pub ask_at-requires : goal.ask_at-requires
+ask_at-requires c = ((what_is_opened c.args.image.now (one_block c.args.out.now) (sym c.opens.ensures ∙ c.enum_told-1.given.1)).size, (what_is_opened c.args.image.now (one_block c.args.out.now) (sym c.opens.ensures ∙ c.enum_told-1.given.1)).good, eqb-true (length c.args.out.now) 512 (what_is_opened c.args.image.now (one_block c.args.out.now) (sym c.opens.ensures ∙ c.enum_told-1.given.1)).right)
+
+pub returns-in-Refused : goal.returns-in-Refused
+returns-in-Refused c = let e = ask_refused c.args.image.now c.args.to c.args.out.now c.r-1.given.0.0 (sym c.opens.ensures ∙ c.r-1.given.1) in (sym (ap (λ (a : After). a.verdict) e), sym (ap (λ (a : After). a.out) e))
+
+pub returns-in-Accepted : goal.returns-in-Accepted
+returns-in-Accepted c = let e = ask_goes_on c.args.image.now c.args.to c.args.out.now (sym c.opens.ensures ∙ c.enum_told-1.given.1) in (c.ask_at.ensures.0 ∙ sym (ap (λ (a : After). a.verdict) e), c.ask_at.ensures.1 ∙ sym (ap (λ (a : After). a.out) e))

@@ -1,0 +1,19 @@
+-- `message_calls::repair` meets its contract. Refused by rows 1 and 2, or what the step answers (Repairing). Assumes nothing.
+use borrow.Author.Rules.{rules}
+use mathlib.Core.Path.{ap, sym, ◌∙◌}
+use mathlib.Core.Bool.{Bool}
+use Rattle.refusal.specs.Refusal.{verdict_of}
+use Rattle.layout.specs.Calls.{After, whole_reply}
+use Rattle.opening.specs.Admitted.{opened}
+use Rattle.opening.proofs.Ladder.{what_is_opened}
+use Rattle.message_calls.proofs.Repairing.{repair_refused, repair_goes_on}
+use Rattle.message_calls.proofs.repair.Goals as goal
+
+pub repair_read-requires : goal.repair_read-requires
+repair_read-requires c = ((what_is_opened c.args.image.now (whole_reply c.args.message.now) (sym (c.opens.ensures ∙ ap (λ (b : Bool). verdict_of (opened c.args.image.now b)) c.is_whole.ensures) ∙ c.enum_told-1.given.1)).size, (what_is_opened c.args.image.now (whole_reply c.args.message.now) (sym (c.opens.ensures ∙ ap (λ (b : Bool). verdict_of (opened c.args.image.now b)) c.is_whole.ensures) ∙ c.enum_told-1.given.1)).good, (what_is_opened c.args.image.now (whole_reply c.args.message.now) (sym (c.opens.ensures ∙ ap (λ (b : Bool). verdict_of (opened c.args.image.now b)) c.is_whole.ensures) ∙ c.enum_told-1.given.1)).right)
+
+pub returns-in-Refused : goal.returns-in-Refused
+returns-in-Refused c = let e = repair_refused c.args.image.now c.args.message.now c.r-1.given.0.0 (sym (c.opens.ensures ∙ ap (λ (b : Bool). verdict_of (opened c.args.image.now b)) c.is_whole.ensures) ∙ c.r-1.given.1) in (sym (ap (λ (a : After). a.verdict) e), sym (ap (λ (a : After). a.image) e))
+
+pub returns-in-Accepted : goal.returns-in-Accepted
+returns-in-Accepted c = let e = repair_goes_on c.args.image.now c.args.message.now (sym (c.opens.ensures ∙ ap (λ (b : Bool). verdict_of (opened c.args.image.now b)) c.is_whole.ensures) ∙ c.enum_told-1.given.1) in (c.repair_read.ensures.0 ∙ sym (ap (λ (a : After). a.verdict) e), c.repair_read.ensures.1 ∙ sym (ap (λ (a : After). a.image) e))

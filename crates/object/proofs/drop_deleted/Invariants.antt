@@ -1,0 +1,22 @@
+-- `object::drop_deleted` meets its contract. The invariant: the versions from the i-th on are tested (Dropping). Assumes nothing.
+use Prim.Native.Nat.{◌-◌}
+use mathlib.Core.Path.{refl}
+use native.Mathlib.Omega.{arith}
+use Rattle.block.proofs.Numbers.{bytes_of}
+use Rattle.meaning.specs.Object.{has_value}
+use Rattle.record_edits.specs.Written.{point_block}
+use Rattle.object.proofs.Dropping.{Dropped, dropping_none, dropping_inside, dropping_small, dropping_keeps, dropping_drops, dropping_all}
+use Rattle.object.proofs.Entries.{is_deleted, is_value}
+use borrow.Author.Rules.{rules}
+use Rattle.object.proofs.drop_deleted.Reads as reads
+use Rattle.object.proofs.drop_deleted.Lts as lts
+use Rattle.record_edits.proofs.remove_version.Reads as remove-version-reads
+use Rattle.record.proofs.said_length.Reads as said-length-reads
+use Rattle.record.proofs.version_count.Reads as version-count-reads
+use Rattle.object.proofs.drop_deleted.Given as goal
+
+abbrev pub invariant-loop-i : goal.invariant-loop-i
+invariant-loop-i l = Dropped (point_block l.initial.b) (λ v. has_value v.contents) l.i l.b
+
+abbrev pub decreases-loop-i : goal.decreases-loop-i
+decreases-loop-i l = l.i

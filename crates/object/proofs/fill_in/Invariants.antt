@@ -1,0 +1,33 @@
+-- `object::fill_in` meets its contract. The invariant: the entries of the first controllers are filled (Sweeping). Assumes nothing.
+use Prim.Native.Nat.{◌-◌, max}
+use mathlib.Core.Path.{refl, ◌∙◌}
+use native.Mathlib.Omega.{arith}
+use Rattle.numbers.specs.Words.{if◌then◌else◌}
+use Rattle.numbers.specs.Numbers.{counter}
+use Rattle.block.proofs.Numbers.{bytes_of}
+use Rattle.meaning.specs.CrewTable.{holds}
+use Rattle.meaning.specs.Clock.{row}
+use Rattle.meaning.specs.Context.{entry, fill_context}
+use Rattle.meaning.specs.Object.{fill}
+use Rattle.layout.specs.PointBlock.{form_1, decode_point}
+use Rattle.layout.specs.Clocks.{decode_clock}
+use Rattle.layout.proofs.Decoded.{point_decoded}
+use Rattle.record_edits.specs.Written.{point_block}
+use Rattle.object.proofs.Sweeping.{Swept, sweeping_none, sweeping_entry, sweeping_more, sweeping_all}
+use Rattle.object.proofs.Entries.{entry_is}
+use borrow.Author.Rules.{rules}
+use Rattle.object.proofs.fill_in.Reads as reads
+use Rattle.object.proofs.fill_in.Lts as lts
+use Rattle.block.proofs.u8_at.Reads as u8-at-reads
+use Rattle.object.proofs.filled_entry.Reads as filled-entry-reads
+use Rattle.parts.proofs.holds.Reads as holds-reads
+use Rattle.parts.proofs.row_at.Reads as row-at-reads
+use Rattle.record.proofs.context_entry.Reads as context-entry-reads
+use Rattle.record_edits.proofs.set_entry.Reads as set-entry-reads
+use Rattle.object.proofs.fill_in.Given as goal
+
+abbrev pub invariant-loop-i : goal.invariant-loop-i
+invariant-loop-i l = Swept (point_block l.initial.b) (λ n. if holds l.table n (decode_point form_1 l.initial.b).key.job then counter (max (entry (decode_point form_1 l.initial.b).object.context n).0 (row (decode_clock l.rows) n).base) else entry (decode_point form_1 l.initial.b).object.context n) l.i l.b
+
+abbrev pub decreases-loop-i : goal.decreases-loop-i
+decreases-loop-i l = 8 - l.i

@@ -1,0 +1,32 @@
+-- `object::strip_off` meets its contract. The invariant: the entries of the first controllers are stripped (Sweeping). Assumes nothing.
+use Prim.Native.Nat.{◌-◌}
+use mathlib.Core.Path.{refl, ap₂, ◌∙◌}
+use native.Mathlib.Omega.{arith}
+use lib.Dec.{leb}
+use Rattle.numbers.specs.declared.Counter.{Counter}
+use Rattle.numbers.specs.Words.{if◌then◌else◌}
+use Rattle.numbers.specs.Numbers.{counter}
+use Rattle.block.proofs.Numbers.{bytes_of}
+use Rattle.row.specs.declared.Row.{Row}
+use Rattle.meaning.specs.Clock.{row}
+use Rattle.meaning.specs.Context.{entry, strip_context}
+use Rattle.meaning.specs.Object.{strip}
+use Rattle.layout.specs.PointBlock.{form_1, decode_point}
+use Rattle.layout.specs.Clocks.{decode_clock}
+use Rattle.layout.proofs.Decoded.{point_decoded}
+use Rattle.record_edits.specs.Written.{point_block}
+use Rattle.object.proofs.Sweeping.{Swept, sweeping_none, sweeping_entry, sweeping_more, sweeping_all}
+use borrow.Author.Rules.{rules}
+use Rattle.object.proofs.strip_off.Reads as reads
+use Rattle.object.proofs.strip_off.Lts as lts
+use Rattle.object.proofs.stripped_entry.Reads as stripped-entry-reads
+use Rattle.parts.proofs.row_at.Reads as row-at-reads
+use Rattle.record.proofs.context_entry.Reads as context-entry-reads
+use Rattle.record_edits.proofs.set_entry.Reads as set-entry-reads
+use Rattle.object.proofs.strip_off.Given as goal
+
+abbrev pub invariant-loop-i : goal.invariant-loop-i
+invariant-loop-i l = Swept (point_block l.initial.b) (λ n. if leb (entry (decode_point form_1 l.initial.b).object.context n).0 (row (decode_clock l.rows) n).base then counter 0 else entry (decode_point form_1 l.initial.b).object.context n) l.i l.b
+
+abbrev pub decreases-loop-i : goal.decreases-loop-i
+decreases-loop-i l = 8 - l.i

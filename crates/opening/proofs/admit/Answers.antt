@@ -1,0 +1,19 @@
+-- `opening::admit` meets its contract. Rows 1 and 2, and then 5 (Ladder). Assumes nothing.
+use mathlib.Core.Path.{sym, ◌∙◌}
+use borrow.Author.Tests.{not-true, not-false}
+use Rattle.store.proofs.Lent.{own_is_crew}
+use Rattle.opening.proofs.Ladder.{what_is_opened, not_admitted, not_ours, may_go_on}
+use borrow.Author.Rules.{rules}
+use Rattle.opening.proofs.admit.Goals as goal
+
+pub is_ours-requires : goal.is_ours-requires
+is_ours-requires c = ((what_is_opened c.args.image.now c.args.lengths (sym c.opens.ensures ∙ c.enum_told-1.given.1)).size, own_is_crew c.args.image.now (what_is_opened c.args.image.now c.args.lengths (sym c.opens.ensures ∙ c.enum_told-1.given.1)).good)
+
+pub returns-then-not-is_ours : goal.returns-then-not-is_ours
+returns-then-not-is_ours c = not_ours c.args.image.now c.args.lengths c.args.k (sym c.opens.ensures ∙ c.enum_told-1.given.1) (sym c.is_ours.ensures ∙ not-true _ c.if-not-is_ours.true-raw)
+
+pub returns-in-Refused : goal.returns-in-Refused
+returns-in-Refused c = not_admitted c.args.image.now c.args.lengths c.args.k c.r-1.given.0.0 (sym c.opens.ensures ∙ c.r-1.given.1)
+
+pub returns-else-not-is_ours : goal.returns-else-not-is_ours
+returns-else-not-is_ours c = may_go_on c.args.image.now c.args.lengths c.args.k (sym c.opens.ensures ∙ c.enum_told-1.given.1) (sym c.is_ours.ensures ∙ not-false _ c.if-not-is_ours.false-raw)

@@ -1,0 +1,16 @@
+-- `record::make_slot` meets its contract. Its stores, one by one (Stores). Assumes nothing.
+use Prim.Native.Nat.{◌-◌}
+use mathlib.Core.Path.{refl}
+use lib.ListN.{length}
+use Rattle.record_edits.proofs.Stores.{slot_made}
+use borrow.Author.Rules.{rules}
+use Rattle.record_edits.proofs.make_slot.Reads as reads
+use Rattle.record_edits.proofs.make_slot.Lts as lts
+use Rattle.block.proofs.clear.Reads as clear_reads
+use Rattle.block.proofs.copy_in.Reads as copy-in-reads
+use Rattle.block.proofs.put_u32.Reads as put-u32-reads
+use Rattle.block.proofs.put_u8.Reads as put-u8-reads
+use Rattle.record_edits.proofs.make_slot.Goals as goal
+
+pub returns : goal.returns
+returns c = let a = c.args in let p = c.requires in slot_made a.slot.now _ _ _ _ a.d (length a.said.now) p.0 c.clear.ensures c.put_u8.ensures c.put_u8-2.ensures c.put_u32.ensures _ a.said.now refl p.1 c.copy_in.ensures

@@ -1,0 +1,14 @@
+-- `record::write_empty` meets its contract. Its stores, one by one (Stores). Assumes nothing.
+use Prim.Native.Nat.{◌-◌}
+use Rattle.record_edits.proofs.Stores.{empty_made}
+use borrow.Author.Rules.{rules}
+use Rattle.record_edits.proofs.write_empty.Reads as reads
+use Rattle.record_edits.proofs.write_empty.Lts as lts
+use Rattle.block.proofs.clear.Reads as clear_reads
+use Rattle.block.proofs.put_u16.Reads as put-u16-reads
+use Rattle.block.proofs.put_u8.Reads as put-u8-reads
+use Rattle.block.proofs.seal_block.Reads as seal-block-reads
+use Rattle.record_edits.proofs.write_empty.Goals as goal
+
+pub returns : goal.returns
+returns c = let a = c.args in empty_made a.b.now _ _ _ _ _ _ _ _ a.kind a.position a.sender a.k c.requires c.clear.ensures c.put_u8.ensures c.put_u8-2.ensures c.put_u16.ensures c.put_u8-3.ensures c.put_u16-2.ensures c.put_u8-4.ensures c.seal_block.ensures

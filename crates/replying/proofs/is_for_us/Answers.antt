@@ -1,0 +1,10 @@
+-- `replying::is_for_us` meets its contract. By the parts that were lent (Judging). Assumes nothing.
+use borrow.Author.Rules.{rules}
+use mathlib.Core.Path.{ap₂}
+use Rattle.numbers.specs.declared.Controller.{Controller}
+use Rattle.numbers.specs.Numbers.{same_controller}
+use Rattle.replying.proofs.Judging.{own_lent}
+use Rattle.replying.proofs.is_for_us.Goals as goal
+
+pub returns : goal.returns
+returns c = ap₂ (λ (n m : Controller). same_controller n m) c.addressee_of-addressee.ensures (own_lent c.args.image.now c.requires.0 c.own_of-own.result c.own_of-own.ensures)

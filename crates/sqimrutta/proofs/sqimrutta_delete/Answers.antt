@@ -1,0 +1,9 @@
+-- `sqimrutta::sqimrutta_delete` meets its contract. The same as a number. Assumes nothing.
+use mathlib.Core.Path.{ap, ◌∙◌}
+use Rattle.refusal.specs.Refusal.{answer_number}
+use borrow.Author.Rules.{rules}
+use Rattle.refusal.proofs.Verdict.number.Reads as number-reads
+use Rattle.sqimrutta.proofs.sqimrutta_delete.Goals as goal
+
+pub returns : goal.returns
+returns c = (c.number.ensures ∙ ap answer_number c.delete.ensures.0, c.delete.ensures.1, c.delete.ensures.2)

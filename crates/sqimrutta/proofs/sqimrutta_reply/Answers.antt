@@ -1,0 +1,8 @@
+-- `sqimrutta::sqimrutta_reply` meets its contract: the number of the answer of `reply`, and its count. Assumes nothing.
+use borrow.Author.Rules.{rules}
+use mathlib.Core.Path.{ap, ◌∙◌}
+use Rattle.refusal.specs.Refusal.{answer_number}
+use Rattle.sqimrutta.proofs.sqimrutta_reply.Goals as goal
+
+pub returns : goal.returns
+returns c = let e = c.reply-replied.ensures in (c.number.ensures ∙ ap answer_number e.0, e.1, e.2)

@@ -1,0 +1,9 @@
+-- `sqimrutta::sqimrutta_strip_pass` meets its contract: the number of the answer of `strip_pass`, and its count. Assumes nothing.
+use mathlib.Core.Path.{ap, ◌∙◌}
+use Rattle.refusal.specs.Refusal.{answer_number}
+use borrow.Author.Rules.{rules}
+use Rattle.refusal.proofs.Verdict.number.Reads as number-reads
+use Rattle.sqimrutta.proofs.sqimrutta_strip_pass.Goals as goal
+
+pub returns : goal.returns
+returns c = let e = c.strip_pass-t.ensures in (c.number.ensures ∙ ap answer_number e.0, e.1, e.2)

@@ -1,0 +1,14 @@
+use native.Mathlib.Omega.{arith}
+use Rattle.block.proofs.Numbers.{bytes_of}
+use Rattle.starting.proofs.Fresh.{fresh_head}
+use borrow.Author.Rules.{rules}
+use Rattle.block.proofs.clear.Reads as clear_reads
+use Rattle.block.proofs.copy_in.Reads as copy-in-reads
+use Rattle.block.proofs.put_u8.Reads as put-u8-reads
+use Rattle.block.proofs.seal_block.Reads as seal-block-reads
+use Rattle.starting.proofs.write_fresh_head.Goals as goal
+
+pub returns : goal.returns
+returns c = fresh_head c.args.b.now _ _ _ _ _ _ c.args.table.now c.args.number (omega arith) (omega arith)
+    (bytes_of c.args.table.now c.type_inv.table) c.clear.ensures c.put_u8.ensures c.put_u8-2.ensures c.put_u8-3.ensures
+    c.copy_in.ensures c.seal_block.ensures

@@ -1,0 +1,27 @@
+-- `writing::put_deletion` meets its contract. The slot says the version (Steps). Assumes nothing.
+use Prim.Native.Nat.{◌-◌}
+use mathlib.Core.Path.{ap}
+use native.Mathlib.Omega.{arith}
+use Rattle.numbers.specs.Words.{map}
+use Rattle.numbers.specs.Numbers.{counter}
+use Rattle.meaning.specs.Object.{Version, deleted}
+use Rattle.layout.specs.Image.{decode}
+use Rattle.writing.proofs.Accepted.{passed}
+use Rattle.writing.proofs.Steps.{slot_says, slot_as_is, slot_formed, slot_judged, slot_made, deletion_formed}
+use mathlib.Core.Bool.{false}
+use borrow.Author.Rules.{rules}
+use Rattle.writing.proofs.put_deletion.Reads as reads
+use Rattle.writing.proofs.put_deletion.Lts as lts
+use Rattle.record_edits.proofs.make_deleted_slot.Reads as make-deleted-slot-reads
+use Rattle.writing.proofs.next_dot.Reads as next-dot-reads
+use Rattle.writing.proofs.put_down.Reads as put-down-reads
+use Rattle.writing.proofs.put_deletion.Goals as goal
+
+pub next_dot-d-requires : goal.next_dot-d-requires
+next_dot-d-requires c = (c.requires.0, c.requires.1, (passed (decode c.args.image.now) c.args.k false (map counter c.args.context.now) c.requires.4).2)
+
+pub put_down-requires : goal.put_down-requires
+put_down-requires c = (c.requires.0, c.requires.1, c.requires.2, c.next_dot-d.ensures, omega arith, slot_as_is (record { dot = c.next_dot-d.result; contents = deleted }) _ (record { who = search rules; count = search rules; said = omega arith }) c.make_deleted_slot.ensures, ap (λ (u : Version). u.dot) (slot_says (record { dot = c.next_dot-d.result; contents = deleted }) _ (record { who = search rules; count = search rules; said = omega arith }) c.make_deleted_slot.ensures), slot_formed (record { dot = c.next_dot-d.result; contents = deleted }) _ (record { who = search rules; count = search rules; said = omega arith }) c.make_deleted_slot.ensures deletion_formed, c.requires.3, slot_judged (record { dot = c.next_dot-d.result; contents = deleted }) _ (record { who = search rules; count = search rules; said = omega arith }) c.make_deleted_slot.ensures (decode c.args.image.now) c.args.k (map counter c.args.context.now) c.requires.4, c.requires.5)
+
+pub returns : goal.returns
+returns c = slot_made (record { dot = c.next_dot-d.result; contents = deleted }) _ (record { who = search rules; count = search rules; said = omega arith }) c.make_deleted_slot.ensures (decode c.args.image.now) c.args.k (map counter c.args.context.now) _ _ c.put_down.ensures
