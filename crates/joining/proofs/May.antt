@@ -13,7 +13,7 @@ use Rattle.meaning.specs.State.{State, local}
 use Rattle.meaning.specs.Message.{most_versions}
 use Rattle.laws.proofs.Goodness.{Good}
 use Rattle.merging.specs.Merging.{theirs, arriving}
-use Rattle.weighing.specs.Weighed.{key_in, Takable, result}
+use Rattle.weighing.specs.Weighed.{key_in, Takable, result_of}
 use Rattle.joining.specs.Joined.{Mergeable}
 use Rattle.weighing.proofs.Takings.{ascend, by_crew, local_ascend, local_by_crew, agreed, count}
 use Rattle.weighing.proofs.Judging.{same_survivors}
@@ -25,7 +25,7 @@ module _ (s : State) (G : Good s) (m here there : List ℕ) (T : Takable s m her
   abbrev o : Object
   o = theirs m there
 
-  pub may_merge : length (result s m there).object.versions ≤ most_versions → Mergeable (local s (key_in m)).versions m here there
+  pub may_merge : length (result_of s m there).object.versions ≤ most_versions → Mergeable (local s (key_in m)).versions m here there
   may_merge few = (
     local_ascend s G k o T.5,
     local_by_crew s G k o T.5,

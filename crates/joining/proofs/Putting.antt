@@ -1,4 +1,4 @@
--- The result of a merge put where its record stands, or would. Assumes nothing.
+-- The result_of of a merge put where its record stands, or would. Assumes nothing.
 use Prim.Native.Nat.{ℕ, ◌≤◌, ◌<◌, max}
 use mathlib.Core.Path.{◌≡◌, refl, ap, ap₂, sym, ◌∙◌, subst}
 use mathlib.Core.Bool.{Bool, true, false}
@@ -28,7 +28,7 @@ use Rattle.store.specs.Restored.{restored}
 use Rattle.store.proofs.Resulting.{put_where_stored, put_where_new, put_nothing, place_left}
 use Rattle.store.proofs.Record.{record_none, look_up_none}
 use Rattle.merging.specs.Merging.{theirs, none_here}
-use Rattle.weighing.specs.Weighed.{key_in, result}
+use Rattle.weighing.specs.Weighed.{key_in, result_of}
 use Rattle.joining.specs.Joined.{merged_with, empty_record, Mergeable}
 use Rattle.weighing.proofs.Judging.{local_versions}
 
@@ -65,11 +65,11 @@ module _ (s : State) (m here there : List ℕ) (full : map counter here ≡ (loc
     pub stored_mergeable : Mergeable (local s (key_in m)).versions m here there → Mergeable (get_or s.points i no_point).object.versions m here there
     stored_mergeable M = subst (λ (vs : List Version). Mergeable vs m here there) stored_versions M
 
-    is_result : merged_with p m here there ≡ result s m there
+    is_result : merged_with p m here there ≡ result_of s m there
     is_result = λ j. record { key = at.1 j; object = merge (record { versions = sym stored_versions j; context = full j }) (theirs m there) }
 
-    pub put_there : (k : Clock) → restored k (put_at s.points i (merged_with (get_or s.points i no_point) m here there)) i ≡ put k s.points (result s m there)
-    put_there k = ap (λ (r : Stored). restored k (put_at s.points i r) i) is_result ∙ put_where_stored k s.points (result s m there) i up at
+    pub put_there : (k : Clock) → restored k (put_at s.points i (merged_with (get_or s.points i no_point) m here there)) i ≡ put k s.points (result_of s m there)
+    put_there k = ap (λ (r : Stored). restored k (put_at s.points i r) i) is_result ∙ put_where_stored k s.points (result_of s m there) i up at
 
   -- ---- none was
 
@@ -80,21 +80,21 @@ module _ (s : State) (m here there : List ℕ) (full : map counter here ≡ (loc
     pub new_mergeable : Mergeable (local s (key_in m)).versions m here there → Mergeable [] m here there
     new_mergeable M = subst (λ (vs : List Version). Mergeable vs m here there) nothing_stored M
 
-    is_new : merged_with (empty_record m) m here there ≡ result s m there
+    is_new : merged_with (empty_record m) m here there ≡ result_of s m there
     is_new = λ j. record { key = key_in m; object = merge (record { versions = sym nothing_stored j; context = full j }) (theirs m there) }
 
     module _ (k : Clock) (g : Bool) (e : g ≡ gone (strip k (merge (none_here here) (theirs m there)))) where
-      goes_is : g ≡ gone (strip k (result s m there).object)
+      goes_is : g ≡ gone (strip k (result_of s m there).object)
       goes_is = e ∙ ap (λ (r : Stored). gone (strip k r.object)) is_new
 
-      pub put_new_there : g ≡ false → insert_at s.points i (stripped k (merged_with (empty_record m) m here there)) ≡ put k s.points (result s m there)
-      put_new_there f = ap (λ (r : Stored). insert_at s.points i (stripped k r)) is_new ∙ put_where_new k s.points (result s m there) i at (sym goes_is ∙ f)
+      pub put_new_there : g ≡ false → insert_at s.points i (stripped k (merged_with (empty_record m) m here there)) ≡ put k s.points (result_of s m there)
+      put_new_there f = ap (λ (r : Stored). insert_at s.points i (stripped k r)) is_new ∙ put_where_new k s.points (result_of s m there) i at (sym goes_is ∙ f)
 
-      pub put_none : g ≡ true → s.points ≡ put k s.points (result s m there)
-      put_none f = put_nothing k s.points (result s m there) i at (sym goes_is ∙ f)
+      pub put_none : g ≡ true → s.points ≡ put k s.points (result_of s m there)
+      put_none f = put_nothing k s.points (result_of s m there) i at (sym goes_is ∙ f)
 
-      pub room_left : g ≡ false → length (put k s.points (result s m there)) ≤ most_points → length s.points < most_points
-      room_left f few = place_left k s.points (result s m there) i at (sym goes_is ∙ f) few
+      pub room_left : g ≡ false → length (put k s.points (result_of s m there)) ≤ most_points → length s.points < most_points
+      room_left f few = place_left k s.points (result_of s m there) i at (sym goes_is ∙ f) few
 
 -- ---- a place that was opened
 

@@ -19,7 +19,7 @@ ghost use Rattle.image.specs.Places.{no_point};
 ghost use Rattle.image_edits.specs.Edits.{Canonical, with_points};
 ghost use Rattle.store.specs.Restored.{restored};
 ghost use Rattle.merging.specs.Merging.{ours, theirs};
-ghost use Rattle.weighing.specs.Weighed.{key_in, result};
+ghost use Rattle.weighing.specs.Weighed.{key_in, result_of};
 ghost use Rattle.joining.specs.Joined.{Mergeable, merged_with, empty_record, with_clock};
 
 use dots::Found;
@@ -31,7 +31,7 @@ use numbers::Controller;
 fn merge_block(b: &mut [u8], m: &[u8], here: &[u32], there: &[u32])
     requires { (length b.old ≡ 512) × Laid lay_point point_block b.old × (length m.now ≡ 512) × Laid lay_point point_block m.now × (length here.now ≡ 8) × (length there.now ≡ 8)
         × (higher (decode_point form_1 b.old).object.context (map counter here.now) ≡ map counter here.now) × Mergeable (decode_point form_1 b.old).object.versions m.now here.now there.now }
-    ensures* { λ _. ⌜ (point_block b.new ≡ with_object (point_block b.old) (merge (ours b.old here.now) (theirs m.now there.now))) × Laid lay_point point_block b.new ⌝ }
+    ensures { (point_block b.new ≡ with_object (point_block b.old) (merge (ours b.old here.now) (theirs m.now there.now))) × Laid lay_point point_block b.new }
 {
     merging::raise_to(b, here);
     merging::merge_in(b, m, here, there);
@@ -42,8 +42,8 @@ fn merge_at(image: &mut [u8], i: usize, m: &[u8], here: &[u32], there: &[u32])
     requires { (length image.old ≡ image_length) × Canonical image.old × (i < length (decode image.old).points) × (length m.now ≡ 512) × Laid lay_point point_block m.now × (length here.now ≡ 8) × (length there.now ≡ 8)
         × (higher (get_or (decode image.old).points i no_point).object.context (map counter here.now) ≡ map counter here.now)
         × Mergeable (get_or (decode image.old).points i no_point).object.versions m.now here.now there.now }
-    ensures* { λ _. ⌜ (decode image.new ≡ with_points (decode image.old) (put_at (decode image.old).points i (merged_with (get_or (decode image.old).points i no_point) m.now here.now there.now)))
-        × Canonical image.new ⌝ }
+    ensures { (decode image.new ≡ with_points (decode image.old) (put_at (decode image.old).points i (merged_with (get_or (decode image.old).points i no_point) m.now here.now there.now)))
+        × Canonical image.new }
 {
     let at = 512 * (3 + i);
     merge_block(&mut image[at..at + 512], m, here, there);
@@ -63,8 +63,8 @@ fn merge_stored(
     requires { (length image.old ≡ image_length) × Canonical image.old × (count ≡ length (decode image.old).points) × (i < count) × (length m.now ≡ 512) × Laid lay_point point_block m.now × (length here.now ≡ 8) × (length there.now ≡ 8)
         × (higher (get_or (decode image.old).points i no_point).object.context (map counter here.now) ≡ map counter here.now)
         × (length rows.now ≡ 96) × Mergeable (get_or (decode image.old).points i no_point).object.versions m.now here.now there.now }
-    ensures* { λ _. ⌜ (decode image.new ≡ with_points (decode image.old) (restored (decode_clock rows.now) (put_at (decode image.old).points i (merged_with (get_or (decode image.old).points i no_point) m.now here.now there.now)) i))
-        × Canonical image.new ⌝ }
+    ensures { (decode image.new ≡ with_points (decode image.old) (restored (decode_clock rows.now) (put_at (decode image.old).points i (merged_with (get_or (decode image.old).points i no_point) m.now here.now there.now)) i))
+        × Canonical image.new }
 {
     merge_at(image, i, m, here, there);
     store::strip_at(image, count, i, rows);
@@ -82,8 +82,8 @@ fn merge_new(
 )
     requires { (length image.old ≡ image_length) × Canonical image.old × (count ≡ length (decode image.old).points) × (i ≤ count) × (count < 64) × (length m.now ≡ 512) × Laid lay_point point_block m.now × (length here.now ≡ 8) × (length there.now ≡ 8)
         × (length rows.now ≡ 96) × Mergeable [] m.now here.now there.now }
-    ensures* { λ _. ⌜ (decode image.new ≡ with_points (decode image.old) (insert_at (decode image.old).points i (stripped (decode_clock rows.now) (merged_with (empty_record m.now) m.now here.now there.now))))
-        × Canonical image.new ⌝ }
+    ensures { (decode image.new ≡ with_points (decode image.old) (insert_at (decode image.old).points i (stripped (decode_clock rows.now) (merged_with (empty_record m.now) m.now here.now there.now))))
+        × Canonical image.new }
 {
     image_edits::open_place(image, count, i, record::key_of(m));
     merge_at(image, i, m, here, there);
@@ -104,8 +104,8 @@ pub fn put_merged(
     requires { (length image.old ≡ image_length) × Canonical image.old × (count ≡ length (decode image.old).points) × (ascends? stored_before (decode image.old).points ≡ true)
         × (length m.now ≡ 512) × Laid lay_point point_block m.now × (length here.now ≡ 8) × (length there.now ≡ 8) × (length rows.now ≡ 96)
         × (map counter here.now ≡ (local (decode image.old) (key_in m.now)).context) × Mergeable (local (decode image.old) (key_in m.now)).versions m.now here.now there.now
-        × (length (put (decode_clock rows.now) (decode image.old).points (result (decode image.old) m.now there.now)) ≤ most_points) }
-    ensures* { λ _. ⌜ (decode image.new ≡ with_points (decode image.old) (put (decode_clock rows.now) (decode image.old).points (result (decode image.old) m.now there.now))) × Canonical image.new ⌝ }
+        × (length (put (decode_clock rows.now) (decode image.old).points (result_of (decode image.old) m.now there.now)) ≤ most_points) }
+    ensures { (decode image.new ≡ with_points (decode image.old) (put (decode_clock rows.now) (decode image.old).points (result_of (decode image.old) m.now there.now))) × Canonical image.new }
 {
     match image::find_point(image, count, record::key_of(m)) {
         Found::At(i) => merge_stored(image, count, i, m, here, there, rows),
@@ -120,7 +120,7 @@ pub fn put_merged(
 // The eight rows.
 pub fn set_rows(image: &mut [u8], rows: &[u8])
     requires { (length image.old ≡ image_length) × Canonical image.old × (length rows.now ≡ 96) }
-    ensures* { λ _. ⌜ (decode image.new ≡ with_clock (decode image.old) (decode_clock rows.now)) × Canonical image.new ⌝ }
+    ensures { (decode image.new ≡ with_clock (decode image.old) (decode_clock rows.now)) × Canonical image.new }
 {
     let mut n: u8 = 1;
     while n < 9 {

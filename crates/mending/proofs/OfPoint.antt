@@ -17,7 +17,7 @@ use Rattle.layout.specs.Image.{image_length, decode}
 use Rattle.store.proofs.Lent.{table_part}
 use Rattle.store.proofs.Record.{context_of}
 use Rattle.merging.specs.Merging.{theirs}
-use Rattle.weighing.specs.Weighed.{key_in, result}
+use Rattle.weighing.specs.Weighed.{key_in, result_of}
 use Rattle.mending.specs.Mended.{filled, mend}
 
 -- the message's context, filled with the sender's clock, as it was read
@@ -28,12 +28,12 @@ there_filled img size b x e k c h =
     h ∙ ap₂ (λ (t : CrewTable) (y : Key). fill_context t y.job k (decode_context (cut b 8 32))) (table_part img size) e
     ∙ ap (fill_context (decode img).table (key_in b).job k) (sym (context_of b))
 
--- with that context beside it, its object is the filled one, and its result the one that the definitions give
+-- with that context beside it, its object is the filled one, and its result_of the one that the definitions give
 module _ (s : State) (k : Clock) (b there : List ℕ) (same : map counter there ≡ (filled s k (decode_stored form_1 b)).context) where
   pub theirs_filled : theirs b there ≡ filled s k (decode_stored form_1 b)
   unfolding fill decode_stored
   theirs_filled = λ i. record { versions = (decode_point form_1 b).object.versions; context = same i }
 
-  pub result_mended : result s b there ≡ mend s k (decode_stored form_1 b)
+  pub result_mended : result_of s b there ≡ mend s k (decode_stored form_1 b)
   unfolding decode_stored
   result_mended = ap (λ (o : Object). record { key = key_in b; object = merge (local s (key_in b)) o }) theirs_filled

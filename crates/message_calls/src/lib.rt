@@ -3,7 +3,7 @@
 
 ghost use Rattle.std.specs.Prelude.{◌≡◌, ◌<◌, ◌&&◌, length, leb};
 ghost use Rattle.layout.specs.Calls.{one_block, reply_room, whole_reply};
-ghost use Rattle.opening.specs.Contracts.{TakesIn, Asks, Replies, Repairs};
+ghost use Rattle.opening.specs.CallContracts.{TakesIn, Asks, Replies, Repairs};
 
 use opening::Tally;
 use refusal::Verdict;

@@ -1,2 +1,2 @@
 pub mod Admitted
-pub mod Contracts
+pub mod CallContracts

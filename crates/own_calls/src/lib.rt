@@ -9,7 +9,7 @@ ghost use Rattle.layout.specs.Clocks.{decode_clock};
 ghost use Rattle.layout.specs.Image.{image_length, encode, decode, good_image};
 ghost use Rattle.layout.specs.Messages.{encode_reading};
 ghost use Rattle.layout.specs.Calls.{one_block};
-ghost use Rattle.opening.specs.Contracts.{Reads, Writes, Deletes, Strips};
+ghost use Rattle.opening.specs.CallContracts.{Reads, Writes, Deletes, Strips};
 
 use numbers::Key;
 use opening::Tally;

@@ -5,7 +5,7 @@ ghost use Rattle.std.specs.Prelude.{◌≡◌};
 ghost use Rattle.numbers.specs.Words.{if◌then◌else◌};
 ghost use Rattle.refusal.specs.Refusal.{answer_number};
 ghost use Rattle.layout.specs.Image.{good_image};
-ghost use Rattle.opening.specs.Contracts.{Starts, Reads, Writes, Deletes, TakesIn, Asks, Replies, Repairs, Strips};
+ghost use Rattle.opening.specs.CallContracts.{Starts, Reads, Writes, Deletes, TakesIn, Asks, Replies, Repairs, Strips};
 
 // For C: a slice is a pointer and a size_t. "An accepted call returns 0", a refused one the refusal's number.
 #[unsafe(no_mangle)]

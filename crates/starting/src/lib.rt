@@ -5,7 +5,7 @@ ghost use Rattle.std.specs.Prelude.{◌≡◌, ◌<◌, [], length};
 ghost use Rattle.numbers.specs.Numbers.{controller};
 ghost use Rattle.meaning.specs.OwnSteps.{fresh};
 ghost use Rattle.layout.specs.Image.{image_length, head_of, encode_head, encode_dots, encode};
-ghost use Rattle.opening.specs.Contracts.{Starts};
+ghost use Rattle.opening.specs.CallContracts.{Starts};
 
 use refusal::{Refusal, Verdict};
 

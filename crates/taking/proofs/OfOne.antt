@@ -30,7 +30,7 @@ use Rattle.arriving.specs.Sent.{points_in, Few, with_arrivals}
 use Rattle.arriving.proofs.Merged.{entered_is}
 use Rattle.noting.specs.Noted.{noted, Crewed}
 use Rattle.merging.specs.Merging.{theirs}
-use Rattle.weighing.specs.Weighed.{key_in, result, Takable}
+use Rattle.weighing.specs.Weighed.{key_in, result_of, Takable}
 use Rattle.joining.specs.Joined.{with_clock}
 use Rattle.taking.specs.Taken.{taken}
 use Rattle.weighing.proofs.Takings.{carried}
@@ -66,7 +66,7 @@ module _ (s : State) (m there : List ℕ) (same : map counter there ≡ (decode_
   pub theirs_is : theirs m there ≡ (decode_point form_1 m).object
   theirs_is = λ i. record { versions = (decode_point form_1 m).object.versions; context = same i }
 
-  pub result_is : result s m there ≡ taken s m
+  pub result_is : result_of s m there ≡ taken s m
   unfolding decode_outgoing
   result_is = ap (λ (o : Object). record { key = key_in m; object = merge (local s (key_in m)) o }) theirs_is
 
@@ -77,7 +77,7 @@ module _ (s : State) (G : Good s) (m here there : List ℕ) (same : map counter 
   P = record { key = key_in m; object = (decode_point form_1 m).object }
 
   abbrev r : Stored
-  r = result s m there
+  r = result_of s m there
 
   is_one : {p : Stored} → p ∈ P ∷ [] → p ≡ P
   is_one h = ⊎_elim (λ e. e) (λ k. absurd (Memᴰ.not-nil k)) (Memᴰ.cases_cons h)
@@ -109,7 +109,7 @@ module _ (s : State) (G : Good s) (m here there : List ℕ) (same : map counter 
   points : points_in m ≡ P ∷ []
   points = one_point m T.0 ∙ (unfold decode_stored in refl)
 
-  pub clock_is : entered s.clock (result s m there ∷ []) ≡ with_arrivals s s.clock (points_in m)
+  pub clock_is : entered s.clock (result_of s m there ∷ []) ≡ with_arrivals s s.clock (points_in m)
   clock_is =
       ap (λ (x : Stored). entered s.clock (x ∷ [])) r_is ∙ entered_is s G s.clock K (P ∷ []) (λ p. p.object) (λ p. refl) C apart
       ∙ ap (with_arrivals s s.clock) (sym points)
@@ -136,7 +136,7 @@ module _ (s : State) (G : Good s) (m here there : List ℕ) (same : map counter 
         to : entered s.clock (r ∷ []) ≡ c
         to = clock_is ∙ sym is
 
-    pub clock_left : entered s.clock (result s m there ∷ []) ≡ c
+    pub clock_left : entered s.clock (result_of s m there ∷ []) ≡ c
     clock_left = clock_is ∙ sym is
 
     module _ (x₁ x₂ x₃ : List ℕ) (listed : (decode x₁ ≡ with_list s 2 (noted s (points_in m))) × Canonical x₁) where
@@ -147,16 +147,16 @@ module _ (s : State) (G : Good s) (m here there : List ℕ) (same : map counter 
       pub points_now : (decode x₁).points ≡ s.points
       points_now = ap (λ (z : State). z.points) listed.0
 
-      pub result_now : result (decode x₁) m there ≡ result s m there
+      pub result_now : result_of (decode x₁) m there ≡ result_of s m there
       result_now = ap (λ (o : Object). record { key = key_in m; object = merge o (theirs m there) }) (local_now (key_in m))
 
-      pub room_now : length (put c s.points (result s m there)) ≤ most_points → length (put c (decode x₁).points (result (decode x₁) m there)) ≤ most_points
+      pub room_now : length (put c s.points (result_of s m there)) ≤ most_points → length (put c (decode x₁).points (result_of (decode x₁) m there)) ≤ most_points
       room_now h =
-          subst (λ (ps : List Stored). length (put c ps (result (decode x₁) m there)) ≤ most_points) (sym points_now)
+          subst (λ (ps : List Stored). length (put c ps (result_of (decode x₁) m there)) ≤ most_points) (sym points_now)
           (subst (λ (q : Stored). length (put c s.points q) ≤ most_points) (sym result_now) h)
 
-      pub taken_in : (decode x₂ ≡ with_points (decode x₁) (put c (decode x₁).points (result (decode x₁) m there))) × Canonical x₂ → (decode x₃ ≡ with_clock (decode x₂) c) × Canonical x₃
-          → x₃ ≡ encode (settled s s.clock (result s m there ∷ []))
+      pub taken_in : (decode x₂ ≡ with_points (decode x₁) (put c (decode x₁).points (result_of (decode x₁) m there))) × Canonical x₂ → (decode x₃ ≡ with_clock (decode x₂) c) × Canonical x₃
+          → x₃ ≡ encode (settled s s.clock (result_of s m there ∷ []))
       taken_in placed set =
           sym set.1
           ∙ ap encode (set.0 ∙ ap (λ (z : State). with_clock z c) (placed.0 ∙ ap₂ (λ (ps : List Stored) (q : Stored). with_points (decode x₁) (put c ps q)) points_now result_now ∙ ap (λ (z : State). with_points z (put c s.points r)) listed.0) ∙ sym left)

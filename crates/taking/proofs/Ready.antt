@@ -34,7 +34,7 @@ use Rattle.arriving.specs.Sent.{points_in, with_arrivals}
 use Rattle.checking.specs.Judged.{message_judged}
 use Rattle.checking.proofs.Judging.{laid_message}
 use Rattle.checking.proofs.Accepted.{MessageFacts, judged_facts, carried}
-use Rattle.weighing.specs.Weighed.{takable, key_in, Takable, result}
+use Rattle.weighing.specs.Weighed.{takable, key_in, Takable, result_of}
 use Rattle.joining.specs.Joined.{Mergeable}
 use Rattle.taking.specs.Taken.{result_judged, taken, left_by}
 use Rattle.joining.proofs.May.{may_merge}
@@ -43,12 +43,12 @@ use Rattle.taking.proofs.OfOne.{result_is, theirs_is, clock_is}
 
 -- ---- what may be merged
 
-module _ (s : State) (G : Good s) (m here there : List ℕ) (T : Takable s m here there) (c : Clock) (ok : verdict_of (result_judged s c (result s m there) true) ≡ Accepted) where
+module _ (s : State) (G : Good s) (m here there : List ℕ) (T : Takable s m here there) (c : Clock) (ok : verdict_of (result_judged s c (result_of s m there) true) ≡ Accepted) where
   pub mergeable : Mergeable (local s (key_in m)).versions m here there
-  mergeable = may_merge s G m here there T (passed s c (result s m there) ok).0
+  mergeable = may_merge s G m here there T (passed s c (result_of s m there) ok).0
 
-  pub place_for_it : length (put c s.points (result s m there)) ≤ most_points
-  place_for_it = (passed s c (result s m there) ok).1
+  pub place_for_it : length (put c s.points (result_of s m there)) ≤ most_points
+  place_for_it = (passed s c (result_of s m there) ok).1
 
 -- ---- what was judged may be taken
 

@@ -17,7 +17,7 @@ ghost use Rattle.layout.specs.Image.{image_length, encode, decode, good_image};
 ghost use Rattle.layout.specs.Calls.{afterwards};
 ghost use Rattle.arriving.specs.Sent.{points_in, with_arrivals};
 ghost use Rattle.checking.specs.Judged.{message_judged};
-ghost use Rattle.weighing.specs.Weighed.{key_in, Takable, result};
+ghost use Rattle.weighing.specs.Weighed.{key_in, Takable, result_of};
 ghost use Rattle.taking.specs.Taken.{result_judged, taken, left_by, heard};
 
 use refusal::{Refusal, Verdict};
@@ -35,7 +35,7 @@ fn judge_point(
 ) -> Verdict
     requires { (length image.now ≡ image_length) × (good_image image.now ≡ true) × (count ≡ length (decode image.now).points) × Takable (decode image.now) m.now here.now there.now × (length rows.now ≡ 96)
         × (every_row fits (decode_clock rows.now) ≡ true) }
-    ensures* { λ r. ⌜ r ≡ verdict_of (result_judged (decode image.now) (decode_clock rows.now) (result (decode image.now) m.now there.now) true) ⌝ }
+    ensures { result ≡ verdict_of (result_judged (decode image.now) (decode_clock rows.now) (result_of (decode image.now) m.now there.now) true) }
 {
     if weighing::too_many(image, count, m, here, there) {
         return Verdict::Refused(Refusal::TooManyVersions);
@@ -56,8 +56,8 @@ fn put_taken(image: &mut [u8], count: usize, m: &[u8], here: &[u32], there: &[u3
     requires { (length image.old ≡ image_length) × (good_image image.old ≡ true) × (count ≡ length (decode image.old).points) × Takable (decode image.old) m.now here.now there.now × (length rows.now ≡ 96)
         × (map counter there.now ≡ (decode_point form_1 m.now).object.context)
         × (decode_clock rows.now ≡ with_arrivals (decode image.old) (decode image.old).clock (points_in m.now))
-        × (verdict_of (result_judged (decode image.old) (decode_clock rows.now) (result (decode image.old) m.now there.now) true) ≡ Accepted) }
-    ensures* { λ _. ⌜ image.new ≡ encode (settled (decode image.old) (decode image.old).clock (result (decode image.old) m.now there.now ∷ [])) ⌝ }
+        × (verdict_of (result_judged (decode image.old) (decode_clock rows.now) (result_of (decode image.old) m.now there.now) true) ≡ Accepted) }
+    ensures { image.new ≡ encode (settled (decode image.old) (decode image.old).clock (result_of (decode image.old) m.now there.now ∷ [])) }
 {
     noting::list_new(image, count, m);
     joining::put_merged(image, count, m, here, there, rows);
@@ -78,8 +78,8 @@ fn take_in_with(
     requires { (length image.old ≡ image_length) × (good_image image.old ≡ true) × (count ≡ length (decode image.old).points) × (length m.now ≡ 512) × (verdict_of (message_judged m.now (decode image.old) true) ≡ Accepted)
         × (length rows.now ≡ 96) × (decode_clock rows.now ≡ with_arrivals (decode image.old) (decode image.old).clock (points_in m.now)) × (every_row fits (decode_clock rows.now) ≡ true)
         × (length here.now ≡ 8) × (map counter here.now ≡ (local (decode image.old) (key_in m.now)).context) × (length there.now ≡ 8) × (map counter there.now ≡ (decode_point form_1 m.now).object.context) }
-    ensures* { λ r. ⌜ (r ≡ (afterwards image.old [] (left_by (settle (decode image.old) (decode image.old).clock (taken (decode image.old) m.now ∷ [])))).verdict)
-        × (image.new ≡ (afterwards image.old [] (left_by (settle (decode image.old) (decode image.old).clock (taken (decode image.old) m.now ∷ [])))).image) ⌝ }
+    ensures { (result ≡ (afterwards image.old [] (left_by (settle (decode image.old) (decode image.old).clock (taken (decode image.old) m.now ∷ [])))).verdict)
+        × (image.new ≡ (afterwards image.old [] (left_by (settle (decode image.old) (decode image.old).clock (taken (decode image.old) m.now ∷ [])))).image) }
 {
     match judge_point(image, count, m, here, there, rows) {
         Verdict::Refused(r) => Verdict::Refused(r),
@@ -94,8 +94,8 @@ fn take_in_with(
 fn take_in_entered(image: &mut [u8], count: usize, m: &[u8], rows: &[u8]) -> Verdict
     requires { (length image.old ≡ image_length) × (good_image image.old ≡ true) × (count ≡ length (decode image.old).points) × (length m.now ≡ 512) × (verdict_of (message_judged m.now (decode image.old) true) ≡ Accepted)
         × (length rows.now ≡ 96) × (decode_clock rows.now ≡ with_arrivals (decode image.old) (decode image.old).clock (points_in m.now)) × (every_row fits (decode_clock rows.now) ≡ true) }
-    ensures* { λ r. ⌜ (r ≡ (afterwards image.old [] (left_by (settle (decode image.old) (decode image.old).clock (taken (decode image.old) m.now ∷ [])))).verdict)
-        × (image.new ≡ (afterwards image.old [] (left_by (settle (decode image.old) (decode image.old).clock (taken (decode image.old) m.now ∷ [])))).image) ⌝ }
+    ensures { (result ≡ (afterwards image.old [] (left_by (settle (decode image.old) (decode image.old).clock (taken (decode image.old) m.now ∷ [])))).verdict)
+        × (image.new ≡ (afterwards image.old [] (left_by (settle (decode image.old) (decode image.old).clock (taken (decode image.old) m.now ∷ [])))).image) }
 {
     let mut here: [u32; 8] = [0; 8];
     weighing::local_context(image, count, record::key_of(m), &mut here);
@@ -107,8 +107,8 @@ fn take_in_entered(image: &mut [u8], count: usize, m: &[u8], rows: &[u8]) -> Ver
 // 11, and then the rest.
 fn take_in_checked(image: &mut [u8], m: &[u8]) -> Verdict
     requires { (length image.old ≡ image_length) × (good_image image.old ≡ true) × (length m.now ≡ 512) × (verdict_of (message_judged m.now (decode image.old) true) ≡ Accepted) }
-    ensures* { λ r. ⌜ (r ≡ (afterwards image.old [] (left_by (settle (decode image.old) (decode image.old).clock (taken (decode image.old) m.now ∷ [])))).verdict)
-        × (image.new ≡ (afterwards image.old [] (left_by (settle (decode image.old) (decode image.old).clock (taken (decode image.old) m.now ∷ [])))).image) ⌝ }
+    ensures { (result ≡ (afterwards image.old [] (left_by (settle (decode image.old) (decode image.old).clock (taken (decode image.old) m.now ∷ [])))).verdict)
+        × (image.new ≡ (afterwards image.old [] (left_by (settle (decode image.old) (decode image.old).clock (taken (decode image.old) m.now ∷ [])))).image) }
 {
     let count = image::stored_count(image);
     let mut rows: [u8; 96] = [0; 96];
@@ -122,7 +122,7 @@ fn take_in_checked(image: &mut [u8], m: &[u8]) -> Verdict
 // "Take in: fill the local object, merge with the message's": rows 3 to 10, and then the rest.
 pub fn take_in_at(image: &mut [u8], message: &[u8]) -> Verdict
     requires { (length image.old ≡ image_length) × (good_image image.old ≡ true) × (length message.now ≡ 512) }
-    ensures* { λ r. ⌜ (r ≡ (afterwards image.old [] (heard image.old message.now)).verdict) × (image.new ≡ (afterwards image.old [] (heard image.old message.now)).image) ⌝ }
+    ensures { (result ≡ (afterwards image.old [] (heard image.old message.now)).verdict) × (image.new ≡ (afterwards image.old [] (heard image.old message.now)).image) }
 {
     match checking::judge_message(image, message) {
         Verdict::Refused(r) => Verdict::Refused(r),

@@ -36,7 +36,7 @@ use Rattle.store.proofs.Lent.{good_now, good_ascends, good_canonical}
 use Rattle.store.proofs.Stripped.{record_laid}
 use Rattle.store.proofs.Record.{record_there, record_none, look_up_none, found_object, lent_long}
 use Rattle.merging.specs.Merging.{theirs, none_here, arriving, agreeing}
-use Rattle.weighing.specs.Weighed.{key_in, Takable, result}
+use Rattle.weighing.specs.Weighed.{key_in, Takable, result_of}
 use Rattle.weighing.proofs.Takings.{local_ascend, agreed, count}
 
 -- the local versions are those that are stored
@@ -67,7 +67,7 @@ restored_length c ps i l =
 insert_length : (ps : List Stored) (i : ℕ) (r : Stored) → i ≤ length ps → length (insert_at ps i r) ≡ length ps + 1
 insert_length ps i r l = simp (length-append, length-take, length-drop) (omega arith)
 
--- a result takes one place more at most
+-- a result_of takes one place more at most
 pub put_grows : (c : Clock) (ps : List Stored) (r : Stored) → length (put c ps r) ≤ length ps + 1
 unfolding put without
 put_grows c ps r =
@@ -104,7 +104,7 @@ module _ (img : List ℕ) (small : Bytes img) (size : length img ≡ image_lengt
     stored_versions = ap (λ (x : Object). x.versions) (sym (found_object img small size good k i at)) ∙ sym (local_versions s k)
 
     pub many_found : (a b : ℕ) → a ≡ length (survivors (decode_point form_1 (take (512 * (3 + i) + 512 - 512 * (3 + i)) (drop (512 * (3 + i)) img))).object (theirs m there))
-        → b ≡ length (keep (λ v. not (covers (map counter here) v.dot)) (decode_point form_1 m).object.versions) → ltb 8 (a + b) ≡ ltb most_versions (length (result (decode img) m there).object.versions)
+        → b ≡ length (keep (λ v. not (covers (map counter here) v.dot)) (decode_point form_1 m).object.versions) → ltb 8 (a + b) ≡ ltb most_versions (length (result_of (decode img) m there).object.versions)
     many_found a b p q =
         ap₂ (λ (x y : ℕ). ltb 8 (x + y)) (p ∙ ap length (same_survivors (decode_point form_1 lent).object (local s k) o stored_versions)) (same_arriving b q)
         ∙ ap (ltb 8) (sym many)
@@ -130,21 +130,21 @@ module _ (img : List ℕ) (small : Bytes img) (size : length img ≡ image_lengt
             subst (λ (x : Object). length x.versions ≤ 8) (sym (found_object img small size good k i at))
             (few_versions lent (subst Bytes (sym (part_is img (512 * (3 + i)) 512)) (bytes_cut img (512 * (3 + i)) 512 small)) (lent_long img small size good k i at) (record_laid img small size (good_canonical img good) i at.0))
 
-    -- the result takes the record's place, or less
-    pub has_its_place : (c : Clock) → false ≡ ltb (length (decode img).points) (length (put c (decode img).points (result (decode img) m there)))
+    -- the result_of takes the record's place, or less
+    pub has_its_place : (c : Clock) → false ≡ ltb (length (decode img).points) (length (put c (decode img).points (result_of (decode img) m there)))
     has_its_place c =
         sym (le-ltb (length (decode img).points) (length (put c (decode img).points r))
         (omega (arith, ap length (sym (put_where_stored c (decode img).points r i (good_ascends img good) at)), restored_length c (put_at (decode img).points i r) i (omega (arith, at.0, splice_length (decode img).points i 1 (r ∷ []) (omega (arith, at.0)) refl)), splice_length (decode img).points i 1 (r ∷ []) (omega (arith, at.0)) refl)))
       where
         r : Stored
-        r = result (decode img) m there
+        r = result_of (decode img) m there
 
-    -- the result there
+    -- the result_of there
     pub merged_found : (c : Clock) (g : Bool) → g ≡ gone (strip c (merge (record { versions = (decode_point form_1 (take (512 * (3 + i) + 512 - 512 * (3 + i)) (drop (512 * (3 + i)) img))).object.versions; context = map counter here }) (theirs m there)))
-        → g ≡ (has_record (key_in m) (decode img).points && gone (strip c (result (decode img) m there).object))
+        → g ≡ (has_record (key_in m) (decode img).points && gone (strip c (result_of (decode img) m there).object))
     merged_found c g e =
         e ∙ ap (λ (x : Object). gone (strip c (merge x o))) (λ j. record { versions = stored_versions j; context = T.3 j })
-        ∙ ap (λ (b : Bool). b && gone (strip c (result (decode img) m there).object)) (sym (record_there (key_in m) (decode img).points i at))
+        ∙ ap (λ (b : Bool). b && gone (strip c (result_of (decode img) m there).object)) (sym (record_there (key_in m) (decode img).points i at))
 
     -- the record's versions may be merged with the message's
     pub found_ascend : ascends? version_before (decode_point form_1 (take (512 * (3 + i) + 512 - 512 * (3 + i)) (drop (512 * (3 + i)) img))).object.versions ≡ true
@@ -165,24 +165,24 @@ module _ (img : List ℕ) (small : Bytes img) (size : length img ≡ image_lengt
         versions : (local s k).versions ≡ []
         versions = local_versions s k ∙ ap (λ (x : Object). x.versions) (look_up_none k (decode img).points none)
 
-    pub none_goes : (c : Clock) → false ≡ (has_record (key_in m) (decode img).points && gone (strip c (result (decode img) m there).object))
-    none_goes c = ap (λ (b : Bool). b && gone (strip c (result (decode img) m there).object)) (sym none)
+    pub none_goes : (c : Clock) → false ≡ (has_record (key_in m) (decode img).points && gone (strip c (result_of (decode img) m there).object))
+    none_goes c = ap (λ (b : Bool). b && gone (strip c (result_of (decode img) m there).object)) (sym none)
 
-    pub few_alone : false ≡ ltb most_versions (length (result (decode img) m there).object.versions)
+    pub few_alone : false ≡ ltb most_versions (length (result_of (decode img) m there).object.versions)
     few_alone = sym (le-ltb 8 (length (merge (local s k) o).versions) (omega (arith, many, few_arrive, ap length alone)))
       where
         alone : survivors (local s k) o ≡ []
         alone = same_survivors (local s k) no_object o (ap (λ (x : Object). x.versions) nothing_here) ∙ (unfold survivors in refl)
 
-    -- the result needs a place where it does not go
+    -- the result_of needs a place where it does not go
     module _ (c : Clock) (g : Bool) (e : g ≡ gone (strip c (merge (none_here here) (theirs m there)))) where
-      goes_is : g ≡ gone (strip c (result (decode img) m there).object)
+      goes_is : g ≡ gone (strip c (result_of (decode img) m there).object)
       goes_is = e ∙ ap (λ (x : Object). gone (strip c (merge x o))) (sym nothing_here)
 
-      pub place_asked : not g ≡ ltb (length (decode img).points) (length (put c (decode img).points (result (decode img) m there)))
+      pub place_asked : not g ≡ ltb (length (decode img).points) (length (put c (decode img).points (result_of (decode img) m there)))
       place_asked =
           by_test g
-          (λ t. ap not t ∙ sym (le-ltb (length (decode img).points) (length (put c (decode img).points (result (decode img) m there)))
-          (omega (arith, ap length (put_nothing c (decode img).points (result (decode img) m there) i at (sym goes_is ∙ t))))))
-          (λ t. ap not t ∙ sym (lt-ltb (length (decode img).points) (length (put c (decode img).points (result (decode img) m there)))
-          (omega (arith, at.0, ap length (put_where_new c (decode img).points (result (decode img) m there) i at (sym goes_is ∙ t)), insert_length (decode img).points i (stripped c (result (decode img) m there)) at.0))))
+          (λ t. ap not t ∙ sym (le-ltb (length (decode img).points) (length (put c (decode img).points (result_of (decode img) m there)))
+          (omega (arith, ap length (put_nothing c (decode img).points (result_of (decode img) m there) i at (sym goes_is ∙ t))))))
+          (λ t. ap not t ∙ sym (lt-ltb (length (decode img).points) (length (put c (decode img).points (result_of (decode img) m there)))
+          (omega (arith, at.0, ap length (put_where_new c (decode img).points (result_of (decode img) m there) i at (sym goes_is ∙ t)), insert_length (decode img).points i (stripped c (result_of (decode img) m there)) at.0))))

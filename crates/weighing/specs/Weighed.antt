@@ -34,5 +34,5 @@ Takable s m here there =
     (length m ≡ 512) × Laid lay_point point_block m × (length here ≡ 8) × (map counter here ≡ (local s (key_in m)).context) × (length there ≡ 8) × (takable s (key_in m) (theirs m there) ≡ true)
 
 -- what comes of it: the filled local object merged with the message's
-abbrev pub result : State → List ℕ → List ℕ → Stored
-result s m there = record { key = key_in m; object = merge (local s (key_in m)) (theirs m there) }
+abbrev pub result_of : State → List ℕ → List ℕ → Stored
+result_of s m there = record { key = key_in m; object = merge (local s (key_in m)) (theirs m there) }

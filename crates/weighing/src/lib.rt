@@ -14,7 +14,7 @@ ghost use Rattle.layout.specs.Clocks.{decode_clock};
 ghost use Rattle.layout.specs.Image.{image_length, decode, good_image};
 ghost use Rattle.image_edits.specs.Edits.{Canonical};
 ghost use Rattle.store.specs.HasRecord.{has_record};
-ghost use Rattle.weighing.specs.Weighed.{key_in, Takable, result};
+ghost use Rattle.weighing.specs.Weighed.{key_in, Takable, result_of};
 
 use dots::Found;
 use numbers::Key;
@@ -24,7 +24,7 @@ use numbers::Key;
 // The filled local context of the point k.
 pub fn local_context(image: &[u8], count: usize, k: Key, out: &mut [u32])
     requires { (length image.now ≡ image_length) × Canonical image.now × (count ≡ length (decode image.now).points) × (ascends? stored_before (decode image.now).points ≡ true) × (length out.old ≡ 8) }
-    ensures* { λ _. ⌜ (map counter out.new ≡ (local (decode image.now) k).context) × (length out.new ≡ 8) ⌝ }
+    ensures { (map counter out.new ≡ (local (decode image.now) k).context) × (length out.new ≡ 8) }
 {
     match image::find_point(image, count, k) {
         Found::At(i) => {
@@ -47,7 +47,7 @@ pub fn local_context(image: &[u8], count: usize, k: Key, out: &mut [u32])
 // A context as it stands in its 32 bytes.
 pub fn given_context(stored: &[u8], out: &mut [u32])
     requires { (length stored.now ≡ 32) × (length out.old ≡ 8) }
-    ensures* { λ _. ⌜ (map counter out.new ≡ decode_context stored.now) × (length out.new ≡ 8) ⌝ }
+    ensures { (map counter out.new ≡ decode_context stored.now) × (length out.new ≡ 8) }
 {
     let mut i: usize = 0;
     while i < 8 {
@@ -61,7 +61,7 @@ pub fn given_context(stored: &[u8], out: &mut [u32])
 // "more than 8 versions": those of the local record that stay, and those that arrive. Without a record only those that arrive are there.
 pub fn too_many(image: &[u8], count: usize, m: &[u8], here: &[u32], there: &[u32]) -> bool
     requires { (length image.now ≡ image_length) × (good_image image.now ≡ true) × (count ≡ length (decode image.now).points) × Takable (decode image.now) m.now here.now there.now }
-    ensures* { λ r. ⌜ r ≡ ltb most_versions (length (result (decode image.now) m.now there.now).object.versions) ⌝ }
+    ensures { result ≡ ltb most_versions (length (result_of (decode image.now) m.now there.now).object.versions) }
 {
     match image::find_point(image, count, record::key_of(m)) {
         Found::At(i) => {
@@ -82,7 +82,7 @@ pub fn needs_place(
     rows: &[u8],
 ) -> bool
     requires { (length image.now ≡ image_length) × (good_image image.now ≡ true) × (count ≡ length (decode image.now).points) × Takable (decode image.now) m.now here.now there.now × (length rows.now ≡ 96) }
-    ensures* { λ r. ⌜ r ≡ ltb (length (decode image.now).points) (length (put (decode_clock rows.now) (decode image.now).points (result (decode image.now) m.now there.now))) ⌝ }
+    ensures { result ≡ ltb (length (decode image.now).points) (length (put (decode_clock rows.now) (decode image.now).points (result_of (decode image.now) m.now there.now))) }
 {
     match image::find_point(image, count, record::key_of(m)) {
         Found::At(_) => false,
@@ -100,7 +100,7 @@ pub fn record_goes(
     rows: &[u8],
 ) -> bool
     requires { (length image.now ≡ image_length) × (good_image image.now ≡ true) × (count ≡ length (decode image.now).points) × Takable (decode image.now) m.now here.now there.now × (length rows.now ≡ 96) }
-    ensures* { λ r. ⌜ r ≡ (has_record (key_in m.now) (decode image.now).points && gone (strip (decode_clock rows.now) (result (decode image.now) m.now there.now).object)) ⌝ }
+    ensures { result ≡ (has_record (key_in m.now) (decode image.now).points && gone (strip (decode_clock rows.now) (result_of (decode image.now) m.now there.now).object)) }
 {
     match image::find_point(image, count, record::key_of(m)) {
         Found::At(i) => {

@@ -3,10 +3,6 @@ use Prim.Native.Nat.{◌-◌}
 use native.Mathlib.Omega.{arith}
 use Rattle.block.proofs.Numbers.{bytes_of}
 use Rattle.block.proofs.Moves.{MovedTo, from_start, next_above, all_to}
-use Rattle.block.proofs.move_down.Reads as reads
-use Rattle.block.proofs.move_down.Lts as lts
-use Rattle.block.proofs.put_u64.Reads as put-u64-reads
-use Rattle.block.proofs.u64_at.Reads as u64-at-reads
 use Rattle.block.proofs.move_down.Goals as goal
 
 pub loop-k-init : goal.loop-k-init

@@ -3,10 +3,6 @@ use Prim.Native.Nat.{◌-◌}
 use native.Mathlib.Omega.{arith}
 use Rattle.block.proofs.Numbers.{bytes_of}
 use Rattle.block.proofs.Moves.{MovedFrom, from_end, next_below, all_from}
-use Rattle.block.proofs.move_up.Reads as reads
-use Rattle.block.proofs.move_up.Lts as lts
-use Rattle.block.proofs.put_u64.Reads as put-u64-reads
-use Rattle.block.proofs.u64_at.Reads as u64-at-reads
 use Rattle.block.proofs.move_up.Given as goal
 
 abbrev pub invariant-loop-k : goal.invariant-loop-k

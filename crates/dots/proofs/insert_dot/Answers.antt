@@ -4,12 +4,6 @@ use native.Mathlib.Omega.{arith}
 use Rattle.block.proofs.Numbers.{bytes_of}
 use Rattle.dots.proofs.Edits.{count_is, few_dots, dot_inserted}
 use borrow.Author.Rules.{rules}
-use Rattle.dots.proofs.insert_dot.Reads as reads
-use Rattle.dots.proofs.insert_dot.Lts as lts
-use Rattle.block.proofs.move_up.Reads as move-up-reads
-use Rattle.block.proofs.put_u16.Reads as put-u16-reads
-use Rattle.dots.proofs.entry_count.Reads as entry-count-reads
-use Rattle.dots.proofs.write_entry.Reads as write-entry-reads
 use Rattle.dots.proofs.insert_dot.Goals as goal
 
 pub overflow_sub-n : goal.overflow_sub-n

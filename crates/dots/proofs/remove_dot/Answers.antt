@@ -4,12 +4,6 @@ use native.Mathlib.Omega.{arith}
 use Rattle.block.proofs.Numbers.{bytes_of}
 use Rattle.dots.proofs.Edits.{count_is, few_dots, dot_removed}
 use borrow.Author.Rules.{rules}
-use Rattle.dots.proofs.remove_dot.Reads as reads
-use Rattle.dots.proofs.remove_dot.Lts as lts
-use Rattle.block.proofs.clear.Reads as clear_reads
-use Rattle.block.proofs.move_down.Reads as move-down-reads
-use Rattle.block.proofs.put_u16.Reads as put-u16-reads
-use Rattle.dots.proofs.entry_count.Reads as entry-count-reads
 use Rattle.dots.proofs.remove_dot.Goals as goal
 
 pub overflow_mul-at : goal.overflow_mul-at

@@ -3,11 +3,6 @@ use Prim.Native.Nat.{◌+◌, ◌*◌, ◌-◌}
 use native.Mathlib.Omega.{arith}
 use Rattle.dots.proofs.Edits.{entry_put}
 use borrow.Author.Rules.{rules}
-use Rattle.dots.proofs.write_entry.Reads as reads
-use Rattle.dots.proofs.write_entry.Lts as lts
-use Rattle.block.proofs.put_u16.Reads as put-u16-reads
-use Rattle.block.proofs.put_u32.Reads as put-u32-reads
-use Rattle.block.proofs.put_u8.Reads as put-u8-reads
 use Rattle.dots.proofs.write_entry.Goals as goal
 
 pub returns : goal.returns

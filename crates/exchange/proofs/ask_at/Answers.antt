@@ -8,11 +8,6 @@ use Rattle.layout.specs.Image.{decode}
 use Rattle.layout.specs.Calls.{After}
 use Rattle.exchange.proofs.Asking.{below_range, above_range, no_peer, asks, ask_is}
 use borrow.Author.Rules.{rules}
-use Rattle.exchange.proofs.ask_at.Reads as reads
-use Rattle.exchange.proofs.ask_at.Lts as lts
-use Rattle.exchange.proofs.other_peer.Reads as other-peer-reads
-use Rattle.greeting.proofs.write_greeting.Reads as write-greeting-reads
-use Rattle.head.proofs.own_of.Reads as own-of-reads
 use Rattle.exchange.proofs.ask_at.Goals as goal
 
 pub returns-then-to-lt1 : goal.returns-then-to-lt1

@@ -5,10 +5,6 @@ use Rattle.numbers.specs.Numbers.{Crew}
 use Rattle.store.proofs.Lent.{own_part, own_is_crew}
 use Rattle.exchange.proofs.Asking.{not_ourselves, by_table}
 use borrow.Author.Rules.{rules}
-use Rattle.exchange.proofs.other_peer.Reads as reads
-use Rattle.exchange.proofs.other_peer.Lts as lts
-use Rattle.head.proofs.own_of.Reads as own-of-reads
-use Rattle.head.proofs.peers.Reads as peers-reads
 use Rattle.exchange.proofs.other_peer.Goals as goal
 
 pub returns-then-m-own : goal.returns-then-m-own

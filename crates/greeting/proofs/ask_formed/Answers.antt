@@ -10,12 +10,6 @@ use Rattle.meaning.specs.Message.{clock_formed}
 use Rattle.meaning.specs.Clock.{Clock}
 use Rattle.greeting.proofs.Formed.{ill_ask, by_clock, clock_of}
 use borrow.Author.Rules.{rules}
-use Rattle.greeting.proofs.ask_formed.Reads as reads
-use Rattle.greeting.proofs.ask_formed.Lts as lts
-use Rattle.greeting.proofs.addressee_of.Reads as addressee-of-reads
-use Rattle.greeting.proofs.clock_formed.Reads as clock-formed-reads
-use Rattle.greeting.proofs.sender_of.Reads as sender-of-reads
-use Rattle.record.proofs.is_controller.Reads as is-controller-reads
 use Rattle.greeting.proofs.ask_formed.Goals as goal
 
 pub returns-then-not-is_controller : goal.returns-then-not-is_controller

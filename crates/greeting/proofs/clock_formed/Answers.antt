@@ -6,11 +6,6 @@ use Rattle.numbers.proofs.Lists.{passed, ◌and-also◌}
 use Rattle.row.specs.declared.Row.{Row}
 use Rattle.greeting.proofs.Formed.{ill_clock, by_bits}
 use borrow.Author.Rules.{rules}
-use Rattle.greeting.proofs.clock_formed.Reads as reads
-use Rattle.greeting.proofs.clock_formed.Lts as lts
-use Rattle.greeting.proofs.rows_named.Reads as rows-named-reads
-use Rattle.head.proofs.rows_sound.Reads as rows-sound-reads
-use Rattle.parts.proofs.row_at.Reads as row-at-reads
 use Rattle.greeting.proofs.clock_formed.Goals as goal
 
 pub returns-then-not-rows_sound : goal.returns-then-not-rows_sound

@@ -7,12 +7,6 @@ use Rattle.numbers.proofs.Tests.{read_is, read_is_not}
 use Rattle.block.proofs.Numbers.{bytes_of}
 use Rattle.greeting.proofs.Laid.{not_laid_out, laid_out}
 use borrow.Author.Rules.{rules}
-use Rattle.greeting.proofs.greeting_laid_out.Reads as reads
-use Rattle.greeting.proofs.greeting_laid_out.Lts as lts
-use Rattle.block.proofs.is_sealed.Reads as is-sealed-reads
-use Rattle.block.proofs.is_zero.Reads as is-zero-reads
-use Rattle.block.proofs.u16_at.Reads as u16-at-reads
-use Rattle.block.proofs.u8_at.Reads as u8-at-reads
 use Rattle.greeting.proofs.greeting_laid_out.Goals as goal
 
 pub returns-then-u8_at-kind : goal.returns-then-u8_at-kind

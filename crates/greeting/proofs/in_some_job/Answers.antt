@@ -2,9 +2,6 @@
 use mathlib.Core.Path.{◌∙◌}
 use Rattle.greeting.proofs.Formed.{one_job}
 use borrow.Author.Rules.{rules}
-use Rattle.greeting.proofs.in_some_job.Reads as reads
-use Rattle.greeting.proofs.in_some_job.Lts as lts
-use Rattle.head.proofs.shares_job.Reads as shares-job-reads
 use Rattle.greeting.proofs.in_some_job.Goals as goal
 
 pub returns : goal.returns

@@ -5,11 +5,6 @@ use Rattle.meaning.specs.Clock.{row}
 use Rattle.meaning.specs.Message.{is_none}
 use Rattle.layout.specs.Clocks.{decode_clock}
 use borrow.Author.Rules.{rules}
-use Rattle.greeting.proofs.row_named.Reads as reads
-use Rattle.greeting.proofs.row_named.Lts as lts
-use Rattle.greeting.proofs.in_some_job.Reads as in-some-job-reads
-use Rattle.head.proofs.row_none.Reads as row-none-reads
-use Rattle.parts.proofs.row_at.Reads as row-at-reads
 use Rattle.greeting.proofs.row_named.Goals as goal
 
 pub returns-then-in_some_job : goal.returns-then-in_some_job

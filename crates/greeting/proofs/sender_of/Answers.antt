@@ -3,9 +3,6 @@ use mathlib.Core.Path.{ap}
 use Rattle.numbers.specs.Numbers.{controller}
 use Rattle.layout.specs.Messages.{decode_ask}
 use borrow.Author.Rules.{rules}
-use Rattle.greeting.proofs.sender_of.Reads as reads
-use Rattle.greeting.proofs.sender_of.Lts as lts
-use Rattle.block.proofs.u8_at.Reads as u8-at-reads
 use Rattle.greeting.proofs.sender_of.Goals as goal
 
 pub returns : goal.returns

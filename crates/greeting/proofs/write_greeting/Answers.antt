@@ -4,13 +4,6 @@ use native.Mathlib.Omega.{arith}
 use Rattle.block.proofs.Numbers.{bytes_of}
 use Rattle.greeting.proofs.Stores.{greeting_is}
 use borrow.Author.Rules.{rules}
-use Rattle.greeting.proofs.write_greeting.Reads as reads
-use Rattle.greeting.proofs.write_greeting.Lts as lts
-use Rattle.block.proofs.clear.Reads as clear_reads
-use Rattle.block.proofs.copy_in.Reads as copy-in-reads
-use Rattle.block.proofs.put_u16.Reads as put-u16-reads
-use Rattle.block.proofs.put_u8.Reads as put-u8-reads
-use Rattle.block.proofs.seal_block.Reads as seal-block-reads
 use Rattle.greeting.proofs.write_greeting.Goals as goal
 
 pub returns : goal.returns

@@ -5,9 +5,6 @@ use Rattle.block.proofs.Numbers.{bytes_of}
 use Rattle.head.proofs.Edits.{mark_is_put}
 use borrow.Author.Rules.{rules}
 use borrow.Author.Rules.{rules}
-use Rattle.head.proofs.set_mark.Reads as reads
-use Rattle.head.proofs.set_mark.Lts as lts
-use Rattle.block.proofs.put_u32.Reads as put-u32-reads
 use Rattle.head.proofs.set_mark.Goals as goal
 
 pub returns : goal.returns

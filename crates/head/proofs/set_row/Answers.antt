@@ -4,10 +4,6 @@ use Rattle.block.proofs.Numbers.{bytes_of}
 use Rattle.head.proofs.Edits.{row_is_put}
 use borrow.Author.Rules.{rules}
 use borrow.Author.Rules.{rules}
-use Rattle.head.proofs.set_row.Reads as reads
-use Rattle.head.proofs.set_row.Lts as lts
-use Rattle.block.proofs.put_u32.Reads as put-u32-reads
-use Rattle.block.proofs.put_u64.Reads as put-u64-reads
 use Rattle.head.proofs.set_row.Goals as goal
 
 pub returns : goal.returns

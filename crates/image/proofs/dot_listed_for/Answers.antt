@@ -1,11 +1,6 @@
 use native.Mathlib.Omega.{arith}
 use Rattle.image.proofs.ListedFor.{found_none, found_within, found_there}
 use borrow.Author.Rules.{rules}
-use Rattle.image.proofs.dot_listed_for.Reads as reads
-use Rattle.image.proofs.dot_listed_for.Lts as lts
-use Rattle.dots.proofs.entry_key.Reads as entry-key-reads
-use Rattle.dots.proofs.find_dot.Reads as find-dot-reads
-use Rattle.numbers.proofs.Key.same.Reads as same_Reads
 use Rattle.image.proofs.dot_listed_for.Goals as goal
 
 pub entry_key-there-requires : goal.entry_key-there-requires

@@ -3,10 +3,6 @@ use Rattle.numbers.proofs.Lists.{passed, ◌and-also◌}
 use Rattle.block.proofs.Passing.{said_no, said_yes}
 use Rattle.image.proofs.Whole.{not_apart, apart_last}
 use borrow.Author.Rules.{rules}
-use Rattle.image.proofs.dots_apart.Reads as reads
-use Rattle.image.proofs.dots_apart.Lts as lts
-use Rattle.image.proofs.list_agrees.Reads as list-agrees-reads
-use Rattle.image.proofs.records_apart.Reads as records-apart-reads
 use Rattle.image.proofs.dots_apart.Goals as goal
 
 pub returns-then-not-records_apart : goal.returns-then-not-records_apart

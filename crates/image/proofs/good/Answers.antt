@@ -3,10 +3,6 @@ use Rattle.block.proofs.Numbers.{bytes_of}
 use Rattle.block.proofs.Passing.{said_no, said_yes}
 use Rattle.image.proofs.Whole.{other_length, not_laid, whole_good}
 use borrow.Author.Rules.{rules}
-use Rattle.image.proofs.good.Reads as reads
-use Rattle.image.proofs.good.Lts as lts
-use Rattle.image.proofs.laid_out.Reads as laid-out-reads
-use Rattle.image.proofs.parts_good.Reads as parts-good-reads
 use Rattle.image.proofs.good.Goals as goal
 
 pub returns-then-image-ne34304 : goal.returns-then-image-ne34304

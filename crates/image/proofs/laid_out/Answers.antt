@@ -5,13 +5,6 @@ use Rattle.block.proofs.Passing.{said_no, said_yes}
 use Rattle.image.proofs.Counted.{stored_few}
 use Rattle.image.proofs.Whole.{not_laid_out, laid_out, head_part, own_part, foreign_part, points_part, rest_part}
 use borrow.Author.Rules.{rules}
-use Rattle.image.proofs.laid_out.Reads as reads
-use Rattle.image.proofs.laid_out.Lts as lts
-use Rattle.block.proofs.is_zero.Reads as is-zero-reads
-use Rattle.dots.proofs.dots_laid_out.Reads as dots-laid-out-reads
-use Rattle.head.proofs.head_laid_out.Reads as head-laid-out-reads
-use Rattle.image.proofs.points_laid_out.Reads as points-laid-out-reads
-use Rattle.image.proofs.stored_count.Reads as stored-count-reads
 use Rattle.image.proofs.laid_out.Goals as goal
 
 pub returns-then-not-head_laid_out : goal.returns-then-not-head_laid_out

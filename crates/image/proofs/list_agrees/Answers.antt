@@ -5,9 +5,6 @@ use Rattle.layout.specs.Image.{decode_dots}
 use Rattle.image.specs.Apart.{listed_for, point_at}
 use Rattle.image.proofs.Loops.{few_part}
 use Rattle.image.proofs.ListedFor.{listed_part}
-use Rattle.image.proofs.list_agrees.Reads as reads
-use Rattle.image.proofs.list_agrees.Lts as lts
-use Rattle.image.proofs.versions_listed_for.Reads as versions-listed-for-reads
 use Rattle.image.proofs.list_agrees.Goals as goal
 
 pub loop-i-init : goal.loop-i-init

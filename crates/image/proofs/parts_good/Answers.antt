@@ -9,15 +9,6 @@ use Rattle.layout.specs.Image.{decode_head}
 use Rattle.image.proofs.Counted.{stored_few}
 use Rattle.image.proofs.Whole.{own_few, foreign_few, points_few, not_good, good_last, apart_is, list_good, records_are, ascend_are, own_crew, own_list_ascends, foreign_list_ascends}
 use borrow.Author.Rules.{rules}
-use Rattle.image.proofs.parts_good.Reads as reads
-use Rattle.image.proofs.parts_good.Lts as lts
-use Rattle.dots.proofs.dots_good.Reads as dots-good-reads
-use Rattle.head.proofs.head_good.Reads as head-good-reads
-use Rattle.head.proofs.own_of.Reads as own-of-reads
-use Rattle.image.proofs.dots_apart.Reads as dots-apart-reads
-use Rattle.image.proofs.points_ascend.Reads as points-ascend-reads
-use Rattle.image.proofs.records_good.Reads as records-good-reads
-use Rattle.image.proofs.stored_count.Reads as stored-count-reads
 use Rattle.image.proofs.parts_good.Goals as goal
 
 pub returns-then-not-head_good : goal.returns-then-not-head_good

@@ -5,10 +5,6 @@ use Rattle.block.proofs.Passing.{said_no, said_yes}
 use Rattle.meaning.specs.State.{stored_before}
 use Rattle.block.proofs.ByIndex.{pairs_one}
 use Rattle.image.proofs.Loops.{UpTo, neighbours, goes_up, goes_down, all_up}
-use Rattle.image.proofs.points_ascend.Reads as reads
-use Rattle.image.proofs.points_ascend.Lts as lts
-use Rattle.numbers.proofs.Key.before.Reads as before-reads
-use Rattle.record.proofs.key_of.Reads as key-of-reads
 use Rattle.image.proofs.points_ascend.Given as goal
 
 abbrev pub invariant-loop-i : goal.invariant-loop-i

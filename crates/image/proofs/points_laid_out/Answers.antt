@@ -3,9 +3,6 @@ use Prim.Native.Nat.{◌+◌, ◌-◌}
 use Rattle.block.proofs.Passing.{Passing, none_passed, one_more, one_fails, all_passed, said_no, said_yes}
 use Rattle.image.specs.Parts.{stored_laid_out}
 use Rattle.image.proofs.Loops.{laid_out_part}
-use Rattle.image.proofs.points_laid_out.Reads as reads
-use Rattle.image.proofs.points_laid_out.Lts as lts
-use Rattle.record.proofs.stored_laid_out.Reads as stored-laid-out-reads
 use Rattle.image.proofs.points_laid_out.Goals as goal
 
 pub loop-i-init : goal.loop-i-init

@@ -5,9 +5,6 @@ use Rattle.layout.specs.Clocks.{decode_clock}
 use Rattle.record.specs.RecordGood.{record_good}
 use Rattle.image.specs.Apart.{point_at}
 use Rattle.image.proofs.Loops.{good_part, few_part}
-use Rattle.image.proofs.records_good.Reads as reads
-use Rattle.image.proofs.records_good.Lts as lts
-use Rattle.record.proofs.record_good.Reads as record-good-reads
 use Rattle.image.proofs.records_good.Given as goal
 
 abbrev pub invariant-loop-i : goal.invariant-loop-i

@@ -1,9 +1,6 @@
 use native.Mathlib.Omega.{arith}
 use Prim.Native.Nat.{◌≤◌, ◌-◌}
 use Rattle.image.proofs.Counted.{Kinds, no_kinds, more_kinds, ends_here, all_stored}
-use Rattle.image.proofs.stored_count.Reads as reads
-use Rattle.image.proofs.stored_count.Lts as lts
-use Rattle.block.proofs.u8_at.Reads as u8-at-reads
 use Rattle.image.proofs.stored_count.Goals as goal
 
 pub loop-n-init : goal.loop-n-init

@@ -6,12 +6,6 @@ use Rattle.block.proofs.Passing.{Passing, none_passed, one_more, one_fails, all_
 use Rattle.layout.specs.PointBlock.{form_1, decode_point}
 use Rattle.layout.specs.Image.{decode_dots}
 use Rattle.image.proofs.ListedFor.{slot_listed, slot_is, listed_all}
-use Rattle.image.proofs.versions_listed_for.Reads as reads
-use Rattle.image.proofs.versions_listed_for.Lts as lts
-use Rattle.image.proofs.dot_listed_for.Reads as dot-listed-for-reads
-use Rattle.record.proofs.key_of.Reads as key-of-reads
-use Rattle.record.proofs.version_count.Reads as version-count-reads
-use Rattle.record.proofs.version_dot.Reads as version-dot-reads
 use Rattle.image.proofs.versions_listed_for.Goals as goal
 
 pub key_of-k-requires : goal.key_of-k-requires

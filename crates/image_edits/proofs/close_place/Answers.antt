@@ -6,11 +6,6 @@ use Rattle.layout.specs.Image.{decode}
 use Rattle.image_edits.proofs.Blocks.{image_decoded, canonical_blocks}
 use mathlib.Core.Path.{refl}
 use Rattle.image_edits.proofs.Closing.{Closing, closing_none, closing_size, closing_laid, closing_more, closed}
-use Rattle.image_edits.proofs.close_place.Reads as reads
-use Rattle.image_edits.proofs.close_place.Lts as lts
-use Rattle.block.proofs.clear.Reads as clear_reads
-use Rattle.block.proofs.move_down.Reads as move-down-reads
-use Rattle.record_edits.proofs.renumber.Reads as renumber-reads
 use Rattle.image_edits.proofs.close_place.Goals as goal
 
 pub loop-j-init : goal.loop-j-init

@@ -5,12 +5,6 @@ use Rattle.block.proofs.Numbers.{bytes_of}
 use Rattle.image_edits.proofs.Blocks.{image_decoded}
 use Rattle.image_edits.proofs.Fetching.{search_ascends, search_few, found_inside, copied_laid, fetched, fetched_none}
 use borrow.Author.Rules.{rules}
-use Rattle.image_edits.proofs.fetch.Reads as reads
-use Rattle.image_edits.proofs.fetch.Lts as lts
-use Rattle.block.proofs.copy_in.Reads as copy-in-reads
-use Rattle.image.proofs.find_point.Reads as find-point-reads
-use Rattle.record_edits.proofs.relabel.Reads as relabel-reads
-use Rattle.record_edits.proofs.write_empty.Reads as write-empty-reads
 use Rattle.image_edits.proofs.fetch.Goals as goal
 
 pub find_point-requires : goal.find_point-requires

@@ -7,10 +7,6 @@ use mathlib.Core.Path.{ap}
 use lib.ListN.{length}
 use Rattle.image_edits.proofs.Lifting.{list_part_laid, list_part_says, insert_done}
 use borrow.Author.Rules.{rules}
-use Rattle.image_edits.proofs.insert_dot.Reads as reads
-use Rattle.image_edits.proofs.insert_dot.Lts as lts
-use Rattle.block.proofs.seal_block.Reads as seal-block-reads
-use Rattle.dots.proofs.insert_dot.Reads as insert-dot-reads
 use Rattle.image_edits.proofs.insert_dot.Goals as goal
 
 pub insert_dot-requires : goal.insert_dot-requires

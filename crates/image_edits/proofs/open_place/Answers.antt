@@ -7,11 +7,6 @@ use Rattle.image_edits.proofs.Blocks.{image_decoded, canonical_blocks}
 use mathlib.Core.Path.{refl}
 use Rattle.image_edits.proofs.Opening.{Opening, opening_none, opening_size, opening_laid, opening_more, opened}
 use borrow.Author.Rules.{rules}
-use Rattle.image_edits.proofs.open_place.Reads as reads
-use Rattle.image_edits.proofs.open_place.Lts as lts
-use Rattle.block.proofs.move_up.Reads as move-up-reads
-use Rattle.record_edits.proofs.renumber.Reads as renumber-reads
-use Rattle.record_edits.proofs.write_empty.Reads as write-empty-reads
 use Rattle.image_edits.proofs.open_place.Goals as goal
 
 pub loop-to-init : goal.loop-to-init

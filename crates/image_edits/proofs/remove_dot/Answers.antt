@@ -7,10 +7,6 @@ use mathlib.Core.Path.{ap}
 use lib.ListN.{length}
 use Rattle.image_edits.proofs.Lifting.{list_part_laid, list_part_says, remove_done}
 use borrow.Author.Rules.{rules}
-use Rattle.image_edits.proofs.remove_dot.Reads as reads
-use Rattle.image_edits.proofs.remove_dot.Lts as lts
-use Rattle.block.proofs.seal_block.Reads as seal-block-reads
-use Rattle.dots.proofs.remove_dot.Reads as remove-dot-reads
 use Rattle.image_edits.proofs.remove_dot.Goals as goal
 
 pub remove_dot-requires : goal.remove_dot-requires

@@ -5,10 +5,6 @@ use native.Mathlib.Omega.{arith}
 use Rattle.block.proofs.Numbers.{bytes_of}
 use Rattle.image_edits.proofs.Lifting.{head_part_laid, mark_done}
 use borrow.Author.Rules.{rules}
-use Rattle.image_edits.proofs.set_mark.Reads as reads
-use Rattle.image_edits.proofs.set_mark.Lts as lts
-use Rattle.block.proofs.seal_block.Reads as seal-block-reads
-use Rattle.head.proofs.set_mark.Reads as set-mark-reads
 use Rattle.image_edits.proofs.set_mark.Goals as goal
 
 pub set_mark-requires : goal.set_mark-requires

@@ -5,10 +5,6 @@ use native.Mathlib.Omega.{arith}
 use Rattle.block.proofs.Numbers.{bytes_of}
 use Rattle.image_edits.proofs.Lifting.{head_part_laid, row_done}
 use borrow.Author.Rules.{rules}
-use Rattle.image_edits.proofs.set_row.Reads as reads
-use Rattle.image_edits.proofs.set_row.Lts as lts
-use Rattle.block.proofs.seal_block.Reads as seal-block-reads
-use Rattle.head.proofs.set_row.Reads as set-row-reads
 use Rattle.image_edits.proofs.set_row.Goals as goal
 
 pub set_row-requires : goal.set_row-requires

@@ -12,7 +12,7 @@ use native.Mathlib.Omega.{arith}
 use Rattle.joining.proofs.set_rows.Goals as goal
 
 pub loop-n-init : goal.loop-n-init
-loop-n-init c = record { low = omega arith; size = c.requires.0; canonical = c.requires.1; is = refl; eight = (image_decoded c.args.image.now (bytes_of c.args.image.now c.type_inv.image) c.requires.0).head.clock.eight; done = λ m c h. absurd (omega (arith, c., h)) }
+loop-n-init c = record { low = omega arith; size = c.requires.0; canonical = c.requires.1; is = refl; eight = (image_decoded c.args.image.now (bytes_of c.args.image.now c.type_inv.image) c.requires.0).head.clock.eight; done = λ m c h. absurd (omega (arith, c.0, h)) }
 
 pub row_at-requires : goal.row_at-requires
 row_at-requires c = (c.requires.2, (c.loop-n.invariant.low, omega arith))

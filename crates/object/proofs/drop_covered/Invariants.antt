@@ -12,12 +12,6 @@ use Rattle.record_edits.specs.Written.{point_block}
 use Rattle.object.proofs.Dropping.{Dropped, dropping_none, dropping_inside, dropping_small, dropping_one, dropping_keeps, dropping_drops, dropping_all}
 use Rattle.object.proofs.Entries.{crewed_dot}
 use borrow.Author.Rules.{rules}
-use Rattle.object.proofs.drop_covered.Reads as reads
-use Rattle.object.proofs.drop_covered.Lts as lts
-use Rattle.object.proofs.given_covers.Reads as given-covers-reads
-use Rattle.record_edits.proofs.remove_version.Reads as remove-version-reads
-use Rattle.record.proofs.version_count.Reads as version-count-reads
-use Rattle.record.proofs.version_dot.Reads as version-dot-reads
 use Rattle.object.proofs.drop_covered.Given as goal
 
 abbrev pub invariant-loop-i : goal.invariant-loop-i

@@ -8,11 +8,6 @@ use Rattle.record_edits.specs.Written.{point_block}
 use Rattle.object.proofs.Dropping.{Dropped, dropping_none, dropping_inside, dropping_small, dropping_keeps, dropping_drops, dropping_all}
 use Rattle.object.proofs.Entries.{is_deleted, is_value}
 use borrow.Author.Rules.{rules}
-use Rattle.object.proofs.drop_deleted.Reads as reads
-use Rattle.object.proofs.drop_deleted.Lts as lts
-use Rattle.record_edits.proofs.remove_version.Reads as remove-version-reads
-use Rattle.record.proofs.said_length.Reads as said-length-reads
-use Rattle.record.proofs.version_count.Reads as version-count-reads
 use Rattle.object.proofs.drop_deleted.Goals as goal
 
 pub loop-i-init : goal.loop-i-init

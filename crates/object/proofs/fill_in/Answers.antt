@@ -16,14 +16,6 @@ use Rattle.record_edits.specs.Written.{point_block}
 use Rattle.object.proofs.Sweeping.{Swept, sweeping_none, sweeping_entry, sweeping_more, sweeping_all}
 use Rattle.object.proofs.Entries.{entry_is}
 use borrow.Author.Rules.{rules}
-use Rattle.object.proofs.fill_in.Reads as reads
-use Rattle.object.proofs.fill_in.Lts as lts
-use Rattle.block.proofs.u8_at.Reads as u8-at-reads
-use Rattle.object.proofs.filled_entry.Reads as filled-entry-reads
-use Rattle.parts.proofs.holds.Reads as holds-reads
-use Rattle.parts.proofs.row_at.Reads as row-at-reads
-use Rattle.record.proofs.context_entry.Reads as context-entry-reads
-use Rattle.record_edits.proofs.set_entry.Reads as set-entry-reads
 use Rattle.object.proofs.fill_in.Goals as goal
 
 pub u8_at-job-requires : goal.u8_at-job-requires

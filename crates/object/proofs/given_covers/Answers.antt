@@ -1,8 +1,6 @@
 -- `object::given_covers` meets its contract (Entries). Assumes nothing.
 use Rattle.object.proofs.Entries.{given_covers_is}
 use borrow.Author.Rules.{rules}
-use Rattle.object.proofs.given_covers.Reads as reads
-use Rattle.object.proofs.given_covers.Lts as lts
 use Rattle.object.proofs.given_covers.Goals as goal
 
 pub returns : goal.returns

@@ -17,12 +17,6 @@ use Rattle.layout.proofs.Decoded.{point_decoded}
 use Rattle.record_edits.specs.Written.{point_block}
 use Rattle.object.proofs.Sweeping.{Swept, sweeping_none, sweeping_entry, sweeping_more, sweeping_all}
 use borrow.Author.Rules.{rules}
-use Rattle.object.proofs.strip_off.Reads as reads
-use Rattle.object.proofs.strip_off.Lts as lts
-use Rattle.object.proofs.stripped_entry.Reads as stripped-entry-reads
-use Rattle.parts.proofs.row_at.Reads as row-at-reads
-use Rattle.record.proofs.context_entry.Reads as context-entry-reads
-use Rattle.record_edits.proofs.set_entry.Reads as set-entry-reads
 use Rattle.object.proofs.strip_off.Goals as goal
 
 pub loop-i-init : goal.loop-i-init

@@ -1,7 +1,5 @@
 -- `object::stripped_entry` meets its contract (Entries). Assumes nothing.
 use Rattle.object.proofs.Entries.{stripped_now, stripped_not}
-use Rattle.object.proofs.stripped_entry.Reads as reads
-use Rattle.object.proofs.stripped_entry.Lts as lts
 use Rattle.object.proofs.stripped_entry.Goals as goal
 
 pub returns-then-e-base : goal.returns-then-e-base

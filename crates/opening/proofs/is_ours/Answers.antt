@@ -10,8 +10,6 @@ use Rattle.layout.specs.Image.{decode}
 use Rattle.store.proofs.Lent.{own_part, table_part}
 use Rattle.opening.proofs.Ours.{not_a_job, not_a_point, by_table}
 use borrow.Author.Rules.{rules}
-use Rattle.head.proofs.own_of.Reads as own-of-reads
-use Rattle.parts.proofs.holds.Reads as holds-reads
 use Rattle.opening.proofs.is_ours.Goals as goal
 
 pub returns-then-job-gt7 : goal.returns-then-job-gt7

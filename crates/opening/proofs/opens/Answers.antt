@@ -4,7 +4,6 @@ use native.Mathlib.Omega.{arith}
 use borrow.Author.Tests.{not-true, not-false}
 use Rattle.opening.proofs.Ladder.{no_image, no_buffer, bad_image, may_open}
 use borrow.Author.Rules.{rules}
-use Rattle.image.proofs.good.Reads as good-reads
 use Rattle.opening.proofs.opens.Goals as goal
 
 pub returns-then-image-ne34304 : goal.returns-then-image-ne34304

@@ -11,8 +11,6 @@ use Rattle.image_edits.specs.Edits.{with_points}
 use Rattle.store.specs.Restored.{restored}
 use Rattle.store.proofs.Lent.{counted, good_ascends, good_canonical, good_now}
 use Rattle.own_calls.proofs.StripPass.{Stripping, stripping_none, stripping_inside, stripping_more, went_one, went_none, stripped_image, stripped_count}
-use Rattle.image.proofs.stored_count.Reads as stored-count-reads
-use Rattle.store.proofs.strip_at.Reads as strip-at-reads
 use Rattle.own_calls.proofs.strip_all.Goals as goal
 
 pub stored_count-stored-requires : goal.stored_count-stored-requires

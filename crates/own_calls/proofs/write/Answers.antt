@@ -18,7 +18,6 @@ use Rattle.opening.specs.Admitted.{admitted}
 use Rattle.opening.proofs.Ladder.{what_is_admitted}
 use Rattle.own_calls.proofs.Writing.{write_refused, write_goes_on}
 use borrow.Author.Rules.{rules}
-use Rattle.writing.proofs.write_at.Reads as write-at-reads
 use Rattle.own_calls.proofs.write.Goals as goal
 
 pub write_at-requires : goal.write_at-requires

@@ -3,12 +3,6 @@ use Prim.Native.Nat.{◌-◌}
 use Rattle.store.proofs.Lent.{counted, good_ascends, good_canonical}
 use Rattle.own_calls.proofs.Reading.{reading_lent}
 use borrow.Author.Rules.{rules}
-use Rattle.block.proofs.seal_block.Reads as seal-block-reads
-use Rattle.head.proofs.own_of.Reads as own-of-reads
-use Rattle.image_edits.proofs.fetch.Reads as fetch-reads
-use Rattle.image.proofs.stored_count.Reads as stored-count-reads
-use Rattle.object.proofs.drop_deleted.Reads as drop-deleted-reads
-use Rattle.object.proofs.fill_in.Reads as fill-in-reads
 use Rattle.own_calls.proofs.write_reading.Goals as goal
 
 pub fetch-requires : goal.fetch-requires

@@ -3,10 +3,6 @@ use mathlib.Core.Path.{ap, ◌∙◌}
 use Rattle.row.specs.declared.Row.{Row}
 use Rattle.row.specs.Row.{has}
 use Rattle.meaning.specs.Clock.{in_clock}
-use Rattle.parts.proofs.in_clock.Reads as reads
-use Rattle.parts.proofs.in_clock.Lts as lts
-use Rattle.parts.proofs.row_at.Reads as row-at-reads
-use Rattle.row.proofs.Row.has.Reads as has-reads
 use Rattle.parts.proofs.in_clock.Goals as goal
 
 pub returns : goal.returns

@@ -1,10 +1,6 @@
 use borrow.Author.Rules.{rules}
 use mathlib.Core.Path.{sym, ◌∙◌}
 use Rattle.parts.proofs.Lookup.{row_fields}
-use Rattle.parts.proofs.row_at.Reads as reads
-use Rattle.parts.proofs.row_at.Lts as lts
-use Rattle.block.proofs.u32_at.Reads as u32-at-reads
-use Rattle.block.proofs.u64_at.Reads as u64-at-reads
 use Rattle.parts.proofs.row_at.Goals as goal
 
 pub returns : goal.returns

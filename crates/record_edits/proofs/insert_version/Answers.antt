@@ -4,12 +4,6 @@ use native.Mathlib.Omega.{arith}
 use Rattle.block.proofs.Numbers.{bytes_of}
 use Rattle.record_edits.proofs.Edits.{count_is, few_versions, version_inserted}
 use borrow.Author.Rules.{rules}
-use Rattle.record_edits.proofs.insert_version.Reads as reads
-use Rattle.record_edits.proofs.insert_version.Lts as lts
-use Rattle.block.proofs.copy_in.Reads as copy-in-reads
-use Rattle.block.proofs.move_up.Reads as move-up-reads
-use Rattle.block.proofs.put_u8.Reads as put-u8-reads
-use Rattle.record.proofs.version_count.Reads as version-count-reads
 use Rattle.record_edits.proofs.insert_version.Goals as goal
 
 pub overflow_sub-n : goal.overflow_sub-n

@@ -3,11 +3,6 @@ use Prim.Native.Nat.{◌-◌}
 use mathlib.Core.Path.{refl}
 use Rattle.record_edits.proofs.Stores.{deleted_made}
 use borrow.Author.Rules.{rules}
-use Rattle.record_edits.proofs.make_deleted_slot.Reads as reads
-use Rattle.record_edits.proofs.make_deleted_slot.Lts as lts
-use Rattle.block.proofs.clear.Reads as clear_reads
-use Rattle.block.proofs.put_u32.Reads as put-u32-reads
-use Rattle.block.proofs.put_u8.Reads as put-u8-reads
 use Rattle.record_edits.proofs.make_deleted_slot.Goals as goal
 
 pub returns : goal.returns

@@ -4,12 +4,6 @@ use mathlib.Core.Path.{refl}
 use lib.ListN.{length}
 use Rattle.record_edits.proofs.Stores.{slot_made}
 use borrow.Author.Rules.{rules}
-use Rattle.record_edits.proofs.make_slot.Reads as reads
-use Rattle.record_edits.proofs.make_slot.Lts as lts
-use Rattle.block.proofs.clear.Reads as clear_reads
-use Rattle.block.proofs.copy_in.Reads as copy-in-reads
-use Rattle.block.proofs.put_u32.Reads as put-u32-reads
-use Rattle.block.proofs.put_u8.Reads as put-u8-reads
 use Rattle.record_edits.proofs.make_slot.Goals as goal
 
 pub returns : goal.returns

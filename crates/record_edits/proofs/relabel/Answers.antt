@@ -4,10 +4,6 @@ use native.Mathlib.Omega.{arith}
 use Rattle.block.proofs.Numbers.{bytes_of}
 use Rattle.record_edits.proofs.Edits.{relabelled_is}
 use borrow.Author.Rules.{rules}
-use Rattle.record_edits.proofs.relabel.Reads as reads
-use Rattle.record_edits.proofs.relabel.Lts as lts
-use Rattle.block.proofs.put_u16.Reads as put-u16-reads
-use Rattle.block.proofs.put_u8.Reads as put-u8-reads
 use Rattle.record_edits.proofs.relabel.Goals as goal
 
 pub returns : goal.returns

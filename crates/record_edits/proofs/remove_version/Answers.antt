@@ -4,12 +4,6 @@ use native.Mathlib.Omega.{arith}
 use Rattle.block.proofs.Numbers.{bytes_of}
 use Rattle.record_edits.proofs.Edits.{count_is, few_versions, version_removed}
 use borrow.Author.Rules.{rules}
-use Rattle.record_edits.proofs.remove_version.Reads as reads
-use Rattle.record_edits.proofs.remove_version.Lts as lts
-use Rattle.block.proofs.clear.Reads as clear_reads
-use Rattle.block.proofs.move_down.Reads as move-down-reads
-use Rattle.block.proofs.put_u8.Reads as put-u8-reads
-use Rattle.record.proofs.version_count.Reads as version-count-reads
 use Rattle.record_edits.proofs.remove_version.Goals as goal
 
 pub overflow_mul-at : goal.overflow_mul-at

@@ -3,9 +3,6 @@ use Prim.Native.Nat.{◌-◌}
 use Rattle.block.proofs.Numbers.{bytes_of}
 use Rattle.record_edits.proofs.Edits.{entry_is_put}
 use borrow.Author.Rules.{rules}
-use Rattle.record_edits.proofs.set_entry.Reads as reads
-use Rattle.record_edits.proofs.set_entry.Lts as lts
-use Rattle.block.proofs.put_u32.Reads as put-u32-reads
 use Rattle.record_edits.proofs.set_entry.Goals as goal
 
 pub returns : goal.returns

@@ -2,12 +2,6 @@
 use Prim.Native.Nat.{◌-◌}
 use Rattle.record_edits.proofs.Stores.{empty_made}
 use borrow.Author.Rules.{rules}
-use Rattle.record_edits.proofs.write_empty.Reads as reads
-use Rattle.record_edits.proofs.write_empty.Lts as lts
-use Rattle.block.proofs.clear.Reads as clear_reads
-use Rattle.block.proofs.put_u16.Reads as put-u16-reads
-use Rattle.block.proofs.put_u8.Reads as put-u8-reads
-use Rattle.block.proofs.seal_block.Reads as seal-block-reads
 use Rattle.record_edits.proofs.write_empty.Goals as goal
 
 pub returns : goal.returns

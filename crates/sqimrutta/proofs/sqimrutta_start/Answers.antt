@@ -1,7 +1,6 @@
 use mathlib.Core.Path.{ap, ◌∙◌}
 use Rattle.refusal.specs.Refusal.{answer_number}
 use borrow.Author.Rules.{rules}
-use Rattle.refusal.proofs.Verdict.number.Reads as number-reads
 use Rattle.sqimrutta.proofs.sqimrutta_start.Goals as goal
 
 pub returns : goal.returns

@@ -5,7 +5,6 @@ use lib.ListN.{length}
 use Rattle.block.proofs.Numbers.{bytes_of}
 use Rattle.starting.proofs.Fresh.{fresh_head_length, no_dots_length, fresh_image, fresh_encoded}
 use borrow.Author.Rules.{rules}
-use Rattle.block.proofs.clear.Reads as clear_reads
 use Rattle.starting.proofs.write_fresh.Goals as goal
 
 pub returns : goal.returns

@@ -2,10 +2,6 @@ use native.Mathlib.Omega.{arith}
 use Rattle.block.proofs.Numbers.{bytes_of}
 use Rattle.starting.proofs.Fresh.{fresh_head}
 use borrow.Author.Rules.{rules}
-use Rattle.block.proofs.clear.Reads as clear_reads
-use Rattle.block.proofs.copy_in.Reads as copy-in-reads
-use Rattle.block.proofs.put_u8.Reads as put-u8-reads
-use Rattle.block.proofs.seal_block.Reads as seal-block-reads
 use Rattle.starting.proofs.write_fresh_head.Goals as goal
 
 pub returns : goal.returns

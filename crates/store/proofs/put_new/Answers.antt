@@ -6,12 +6,6 @@ use Rattle.layout.specs.Clocks.{decode_clock}
 use Rattle.layout.specs.PointBlock.{form_1, decode_stored}
 use Rattle.store.proofs.Resulting.{opened_inside, written_inside, new_put}
 use borrow.Author.Rules.{rules}
-use Rattle.store.proofs.put_new.Reads as reads
-use Rattle.store.proofs.put_new.Lts as lts
-use Rattle.image_edits.proofs.open_place.Reads as open-place-reads
-use Rattle.record.proofs.key_of.Reads as key-of-reads
-use Rattle.store.proofs.strip_record.Reads as strip-record-reads
-use Rattle.store.proofs.write_record.Reads as write-record-reads
 use Rattle.store.proofs.put_new.Goals as goal
 
 pub write_record-requires : goal.write_record-requires

@@ -13,13 +13,6 @@ use Rattle.image_edits.specs.Edits.{with_points}
 use Rattle.image_edits.proofs.Fetching.{search_ascends, search_few}
 use Rattle.store.proofs.Resulting.{result_found, same_gone, place_left, put_where_stored, put_where_new, put_nothing}
 use borrow.Author.Rules.{rules}
-use Rattle.store.proofs.put_result.Reads as reads
-use Rattle.store.proofs.put_result.Lts as lts
-use Rattle.image.proofs.find_point.Reads as find-point-reads
-use Rattle.object.proofs.goes.Reads as goes-reads
-use Rattle.record.proofs.key_of.Reads as key-of-reads
-use Rattle.store.proofs.put_new.Reads as put-new-reads
-use Rattle.store.proofs.put_stored.Reads as put-stored-reads
 use Rattle.store.proofs.put_result.Goals as goal
 
 pub find_point-requires : goal.find_point-requires

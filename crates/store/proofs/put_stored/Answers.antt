@@ -6,10 +6,6 @@ use Rattle.layout.specs.Clocks.{decode_clock}
 use Rattle.layout.specs.PointBlock.{form_1, decode_stored}
 use Rattle.store.proofs.Resulting.{count_kept, stored_put}
 use borrow.Author.Rules.{rules}
-use Rattle.store.proofs.put_stored.Reads as reads
-use Rattle.store.proofs.put_stored.Lts as lts
-use Rattle.store.proofs.strip_at.Reads as strip-at-reads
-use Rattle.store.proofs.write_record.Reads as write-record-reads
 use Rattle.store.proofs.put_stored.Goals as goal
 
 pub strip_at-requires : goal.strip_at-requires

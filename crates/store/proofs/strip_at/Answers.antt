@@ -8,11 +8,6 @@ use Rattle.layout.specs.Clocks.{decode_clock}
 use Rattle.image_edits.proofs.Blocks.{image_decoded}
 use Rattle.store.proofs.Stripped.{count_now, lent_long, lent_few, gone_is, stays, goes}
 use borrow.Author.Rules.{rules}
-use Rattle.store.proofs.strip_at.Reads as reads
-use Rattle.store.proofs.strip_at.Lts as lts
-use Rattle.image_edits.proofs.close_place.Reads as close-place-reads
-use Rattle.record.proofs.is_gone.Reads as is-gone-reads
-use Rattle.store.proofs.strip_record.Reads as strip-record-reads
 use Rattle.store.proofs.strip_at.Goals as goal
 
 pub overflow_add-at : goal.overflow_add-at

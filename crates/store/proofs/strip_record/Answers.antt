@@ -7,10 +7,6 @@ use Rattle.layout.specs.Clocks.{decode_clock}
 use Rattle.image_edits.proofs.Blocks.{image_decoded}
 use Rattle.store.proofs.Stripped.{record_laid, record_size, record_stripped}
 use borrow.Author.Rules.{rules}
-use Rattle.store.proofs.strip_record.Reads as reads
-use Rattle.store.proofs.strip_record.Lts as lts
-use Rattle.block.proofs.seal_block.Reads as seal-block-reads
-use Rattle.object.proofs.strip_off.Reads as strip-off-reads
 use Rattle.store.proofs.strip_record.Goals as goal
 
 pub overflow_add-at : goal.overflow_add-at

@@ -9,10 +9,6 @@ use Rattle.record_edits.specs.Written.{lay_point, point_block}
 use Rattle.image_edits.proofs.Blocks.{image_decoded}
 use Rattle.store.proofs.Recorded.{copied_part, record_written}
 use borrow.Author.Rules.{rules}
-use Rattle.store.proofs.write_record.Reads as reads
-use Rattle.store.proofs.write_record.Lts as lts
-use Rattle.block.proofs.copy_in.Reads as copy-in-reads
-use Rattle.record_edits.proofs.renumber.Reads as renumber-reads
 use Rattle.store.proofs.write_record.Goals as goal
 
 pub overflow_add-at : goal.overflow_add-at

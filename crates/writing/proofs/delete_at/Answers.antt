@@ -9,10 +9,6 @@ use Rattle.layout.specs.Calls.{After}
 use Rattle.store.proofs.Lent.{good_now}
 use Rattle.writing.proofs.Steps.{delete_refused, delete_made}
 use borrow.Author.Rules.{rules}
-use Rattle.writing.proofs.delete_at.Reads as reads
-use Rattle.writing.proofs.delete_at.Lts as lts
-use Rattle.writing.proofs.judge.Reads as judge-reads
-use Rattle.writing.proofs.put_deletion.Reads as put-deletion-reads
 use Rattle.writing.proofs.delete_at.Goals as goal
 
 pub put_deletion-requires : goal.put_deletion-requires

@@ -16,12 +16,6 @@ use Rattle.refusal.specs.Refusal.{verdict_of}
 use Rattle.writing.specs.Judged.{judged}
 use Rattle.store.proofs.Record.{record_none, lent_long, lent_few, lent_key, lent_crewed, lent_stored, lent_looked_up}
 use borrow.Author.Rules.{rules}
-use Rattle.writing.proofs.judge.Reads as reads
-use Rattle.writing.proofs.judge.Lts as lts
-use Rattle.image.proofs.find_point.Reads as find-point-reads
-use Rattle.image.proofs.stored_count.Reads as stored-count-reads
-use Rattle.writing.proofs.judge_new.Reads as judge-new-reads
-use Rattle.writing.proofs.judge_record.Reads as judge-record-reads
 use Rattle.writing.proofs.judge.Goals as goal
 
 pub find_point-requires : goal.find_point-requires

@@ -8,11 +8,6 @@ use Rattle.writing.proofs.Rows.{ahead, many_points, place_left}
 use Rattle.store.proofs.Record.{no_entries}
 use Rattle.writing.proofs.Judges.{ahead_is, none_stays, place_needed}
 use borrow.Author.Rules.{rules}
-use Rattle.writing.proofs.judge_new.Reads as reads
-use Rattle.writing.proofs.judge_new.Lts as lts
-use Rattle.object.proofs.ahead.Reads as ahead-reads
-use Rattle.writing.proofs.judge_own.Reads as judge-own-reads
-use Rattle.writing.proofs.no_place.Reads as no-place-reads
 use Rattle.writing.proofs.judge_new.Goals as goal
 
 pub returns-then-ahead : goal.returns-then-ahead

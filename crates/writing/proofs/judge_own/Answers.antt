@@ -6,10 +6,6 @@ use Rattle.layout.specs.Image.{decode}
 use Rattle.store.proofs.Lent.{own_count, good_canonical}
 use Rattle.writing.proofs.Rows.{list_full, used_up, all_passed}
 use borrow.Author.Rules.{rules}
-use Rattle.writing.proofs.judge_own.Reads as reads
-use Rattle.writing.proofs.judge_own.Lts as lts
-use Rattle.dots.proofs.entry_count.Reads as entry-count-reads
-use Rattle.writing.proofs.own_base.Reads as own-base-reads
 use Rattle.writing.proofs.judge_own.Goals as goal
 
 pub returns-then-entry_count-ge60 : goal.returns-then-entry_count-ge60

@@ -12,12 +12,6 @@ use Rattle.writing.proofs.Rows.{ahead, many_versions, place_left}
 use Rattle.store.proofs.Record.{context_of, job_of}
 use Rattle.writing.proofs.Judges.{ahead_is, staying_is, has_place}
 use borrow.Author.Rules.{rules}
-use Rattle.writing.proofs.judge_record.Reads as reads
-use Rattle.writing.proofs.judge_record.Lts as lts
-use Rattle.block.proofs.u8_at.Reads as u8-at-reads
-use Rattle.object.proofs.ahead.Reads as ahead-reads
-use Rattle.object.proofs.staying.Reads as staying-reads
-use Rattle.writing.proofs.judge_own.Reads as judge-own-reads
 use Rattle.writing.proofs.judge_record.Goals as goal
 
 pub returns-then-ahead : goal.returns-then-ahead

@@ -12,15 +12,6 @@ use Rattle.writing.proofs.Keeping.{who_is, same_list, points_ascend, points_few,
 use mathlib.Core.Path.{ap}
 use lib.ListN.{length}
 use borrow.Author.Rules.{rules}
-use Rattle.writing.proofs.keep_written.Reads as reads
-use Rattle.writing.proofs.keep_written.Lts as lts
-use Rattle.block.proofs.copy_in.Reads as copy-in-reads
-use Rattle.dots.proofs.entry_count.Reads as entry-count-reads
-use Rattle.image.proofs.stored_count.Reads as stored-count-reads
-use Rattle.image_edits.proofs.insert_dot.Reads as insert-dot-reads
-use Rattle.image_edits.proofs.set_row.Reads as set-row-reads
-use Rattle.record.proofs.key_of.Reads as key-of-reads
-use Rattle.store.proofs.put_result.Reads as put-result-reads
 use Rattle.writing.proofs.keep_written.Goals as goal
 
 pub set_row-requires : goal.set_row-requires

@@ -8,10 +8,6 @@ use Rattle.numbers.specs.Numbers.{counter}
 use Rattle.meaning.specs.OwnSteps.{next_dot}
 use Rattle.store.proofs.Lent.{own_part}
 use borrow.Author.Rules.{rules}
-use Rattle.writing.proofs.next_dot.Reads as reads
-use Rattle.writing.proofs.next_dot.Lts as lts
-use Rattle.head.proofs.own_of.Reads as own-of-reads
-use Rattle.writing.proofs.own_base.Reads as own-base-reads
 use Rattle.writing.proofs.next_dot.Goals as goal
 
 pub overflow_add-result : goal.overflow_add-result

@@ -1,8 +1,6 @@
 -- `writing::no_place` meets its contract. Assumes nothing.
 use mathlib.Core.Path.{sym}
 use borrow.Author.Tests.{not-true, not-false}
-use Rattle.writing.proofs.no_place.Reads as reads
-use Rattle.writing.proofs.no_place.Lts as lts
 use Rattle.writing.proofs.no_place.Goals as goal
 
 pub returns-then-not-valued : goal.returns-then-not-valued

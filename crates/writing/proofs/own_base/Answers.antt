@@ -7,10 +7,6 @@ use Rattle.row.specs.declared.Row.{Row}
 use Rattle.meaning.specs.Clock.{Clock, row}
 use Rattle.store.proofs.Lent.{own_part, clock_part, own_is_crew}
 use borrow.Author.Rules.{rules}
-use Rattle.writing.proofs.own_base.Reads as reads
-use Rattle.writing.proofs.own_base.Lts as lts
-use Rattle.head.proofs.own_of.Reads as own-of-reads
-use Rattle.parts.proofs.row_at.Reads as row-at-reads
 use Rattle.writing.proofs.own_base.Goals as goal
 
 pub row_at-r-requires : goal.row_at-r-requires

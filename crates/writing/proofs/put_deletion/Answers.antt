@@ -10,11 +10,6 @@ use Rattle.writing.proofs.Accepted.{passed}
 use Rattle.writing.proofs.Steps.{slot_says, slot_as_is, slot_formed, slot_judged, slot_made, deletion_formed}
 use mathlib.Core.Bool.{false}
 use borrow.Author.Rules.{rules}
-use Rattle.writing.proofs.put_deletion.Reads as reads
-use Rattle.writing.proofs.put_deletion.Lts as lts
-use Rattle.record_edits.proofs.make_deleted_slot.Reads as make-deleted-slot-reads
-use Rattle.writing.proofs.next_dot.Reads as next-dot-reads
-use Rattle.writing.proofs.put_down.Reads as put-down-reads
 use Rattle.writing.proofs.put_deletion.Goals as goal
 
 pub next_dot-d-requires : goal.next_dot-d-requires

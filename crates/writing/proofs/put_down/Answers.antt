@@ -10,10 +10,6 @@ use Rattle.store.proofs.Lent.{good_now}
 use Rattle.writing.proofs.Accepted.{passed}
 use Rattle.writing.proofs.Down.{held_here, message_laid, points_fit, recorded_is}
 use borrow.Author.Rules.{rules}
-use Rattle.writing.proofs.put_down.Reads as reads
-use Rattle.writing.proofs.put_down.Lts as lts
-use Rattle.writing.proofs.keep_written.Reads as keep-written-reads
-use Rattle.writing.proofs.write_message.Reads as write-message-reads
 use Rattle.writing.proofs.put_down.Goals as goal
 
 pub write_message-requires : goal.write_message-requires

@@ -12,11 +12,6 @@ use Rattle.writing.proofs.Accepted.{passed}
 use Rattle.writing.proofs.Steps.{slot_says, slot_as_is, slot_formed, slot_judged, slot_made, value_formed}
 use mathlib.Core.Bool.{true}
 use borrow.Author.Rules.{rules}
-use Rattle.writing.proofs.put_value.Reads as reads
-use Rattle.writing.proofs.put_value.Lts as lts
-use Rattle.record_edits.proofs.make_slot.Reads as make-slot-reads
-use Rattle.writing.proofs.next_dot.Reads as next-dot-reads
-use Rattle.writing.proofs.put_down.Reads as put-down-reads
 use Rattle.writing.proofs.put_value.Goals as goal
 
 pub next_dot-d-requires : goal.next_dot-d-requires

@@ -10,15 +10,6 @@ use Rattle.store.proofs.Lent.{good_now, own_is_crew, good_canonical, good_ascend
 use Rattle.writing.proofs.Keeping.{who_is}
 use Rattle.writing.proofs.Message.{filled_lent, filled_crewed, dropped_ascends, dropped_few, message_is, fetched_own, raised_own, version_own}
 use borrow.Author.Rules.{rules}
-use Rattle.writing.proofs.write_message.Reads as reads
-use Rattle.writing.proofs.write_message.Lts as lts
-use Rattle.block.proofs.seal_block.Reads as seal-block-reads
-use Rattle.image.proofs.stored_count.Reads as stored-count-reads
-use Rattle.image_edits.proofs.fetch.Reads as fetch-reads
-use Rattle.object.proofs.drop_covered.Reads as drop-covered-reads
-use Rattle.object.proofs.fill_in.Reads as fill-in-reads
-use Rattle.object.proofs.put_version.Reads as put-version-reads
-use Rattle.record_edits.proofs.set_entry.Reads as set-entry-reads
 use Rattle.writing.proofs.write_message.Goals as goal
 
 pub fetch-requires : goal.fetch-requires
