@@ -28,4 +28,4 @@ module _ (x y : List ℕ) (laid_x : encode_slot form_1 (decode_slot form_1 x) �
 
   -- v and w are what they say, and t whether their bytes are the same
   pub slots_say : (v w : Version) → decode_slot form_1 x ≡ v → decode_slot form_1 y ≡ w → (t : Bool) → t ≡ same_list x y → not t ≡ not (same_contents v.contents w.contents)
-  slots_say v w says-x says_y t q = ap not (q ∙ bytes_say ∙ ap₂ (λ (a b : Version). same_contents a.contents b.contents) says-x says_y)
+  slots_say v w says_x says_y t q = ap not (q ∙ bytes_say ∙ ap₂ (λ (a b : Version). same_contents a.contents b.contents) says_x says_y)

@@ -10,7 +10,7 @@ use Rattle.numbers.specs.declared.Controller.{Controller}
 use Rattle.numbers.specs.Numbers.{Crew, last_counter, is_controller, is_counter, is_point, is_job}
 use Rattle.numbers.specs.Key.{is_key}
 use Rattle.numbers.proofs.Tests.{by_test, and_both, and_first, and_second}
-use Rattle.numbers.proofs.Lists.{clause, failed, last_test, passed, ◌and-also◌, all_passed}
+use Rattle.numbers.proofs.Lists.{clause, failed, last_test, passed, ◌and_also◌, all_passed}
 use Rattle.numbers.proofs.Controllers.{crew_is, is_crew}
 use Rattle.meaning.specs.CrewTable.{CrewTable, holds}
 use Rattle.meaning.specs.Clock.{Clock, in_clock}
@@ -57,7 +57,7 @@ module _ (mine : Bool) (own : Controller) (t : CrewTable) (k : Clock) (l : Liste
       → holds t l.dot.who l.key.job ≡ true → in_its_list mine own l ≡ true → holds t own l.key.job ≡ true → in_clock k l.dot ≡ entry_good mine own t k l
   unfolding entry_good
   last_asked j p w c h i o =
-      last_test (listed_formed t l ∷ in_its_list mine own l ∷ holds t own l.key.job ∷ []) (in_clock k l.dot) (formed and-also i and-also o and-also passed)
+      last_test (listed_formed t l ∷ in_its_list mine own l ∷ holds t own l.key.job ∷ []) (in_clock k l.dot) (formed and_also i and_also o and_also passed)
     where
       is_a_key : is_key l.key ≡ true
       is_a_key =
@@ -71,7 +71,7 @@ module _ (mine : Bool) (own : Controller) (t : CrewTable) (k : Clock) (l : Liste
           (and_both (leb 1 l.dot.count.0) (leb l.dot.count.0 last_counter) (le-leb 1 l.dot.count.0 c.0) (le-leb l.dot.count.0 last_counter c.1))
 
       formed : listed_formed t l ≡ true
-      formed = unfold listed_formed in (all_passed {bs = ranges} (is_a_key and-also is_crew l.dot.who w and-also h and-also is_a_counter and-also passed))
+      formed = unfold listed_formed in (all_passed {bs = ranges} (is_a_key and_also is_crew l.dot.who w and_also h and_also is_a_counter and_also passed))
 
   -- a good one is of a controller
   pub good_who : entry_good mine own t k l ≡ true → 1 ≤ l.dot.who.0

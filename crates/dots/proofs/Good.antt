@@ -11,7 +11,7 @@ use Rattle.numbers.specs.declared.Dot.{Dot}
 use Rattle.numbers.specs.Words.{all?, ascends?}
 use Rattle.numbers.specs.Dot.{dot, dot_before}
 use Rattle.numbers.proofs.Tests.{by_test, never}
-use Rattle.numbers.proofs.Lists.{clause, passed, ◌and-also◌, all_passed}
+use Rattle.numbers.proofs.Lists.{clause, passed, ◌and_also◌, all_passed}
 use Rattle.numbers.proofs.Orders.{lt_pair}
 use Rattle.numbers.proofs.Dots.{dot_order}
 use Rattle.block.specs.Fields.{upto}
@@ -49,11 +49,11 @@ module _ (mine : Bool) (own : Controller) (t : CrewTable) (k : Clock) (n : ℕ) 
       sym
       (all_passed {bs = clauses}
       (all_below (listed_formed t) n e (λ i l. test_at (e i) (g i l) 0)
-      and-also ascends_upto listed_before n e p
-      and-also all_below (in_its_list mine own) n e (λ i l. test_at (e i) (g i l) 1)
-      and-also all_below (λ l. holds t own l.key.job) n e (λ i l. test_at (e i) (g i l) 2)
-      and-also all_below (λ l. in_clock k l.dot) n e (λ i l. test_at (e i) (g i l) 3)
-      and-also passed))
+      and_also ascends_upto listed_before n e p
+      and_also all_below (in_its_list mine own) n e (λ i l. test_at (e i) (g i l) 1)
+      and_also all_below (λ l. holds t own l.key.job) n e (λ i l. test_at (e i) (g i l) 2)
+      and_also all_below (λ l. in_clock k l.dot) n e (λ i l. test_at (e i) (g i l) 3)
+      and_also passed))
 
   clause_at : dots_good mine own t k (upto n e) ≡ true → (i : ℕ) → get_or clauses i true ≡ true
   unfolding dots_good
@@ -64,10 +64,10 @@ module _ (mine : Bool) (own : Controller) (t : CrewTable) (k : Clock) (n : ℕ) 
   each_of g i l =
       all_passed {bs = tests (e i)}
       (below_all (listed_formed t) n e (clause_at g 0) i l
-      and-also below_all (in_its_list mine own) n e (clause_at g 2) i l
-      and-also below_all (λ x. holds t own x.key.job) n e (clause_at g 3) i l
-      and-also below_all (λ x. in_clock k x.dot) n e (clause_at g 4) i l
-      and-also passed)
+      and_also below_all (in_its_list mine own) n e (clause_at g 2) i l
+      and_also below_all (λ x. holds t own x.key.job) n e (clause_at g 3) i l
+      and_also below_all (λ x. in_clock k x.dot) n e (clause_at g 4) i l
+      and_also passed)
 
   pub one_bad : (i : ℕ) → i < n → entry_good mine own t k (e i) ≡ false → false ≡ dots_good mine own t k (upto n e)
   one_bad i l b = by_test (dots_good mine own t k (upto n e)) (λ g. never (each_of g i l) b) (λ f. sym f)

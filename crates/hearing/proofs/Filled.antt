@@ -12,7 +12,7 @@ use Rattle.numbers.specs.declared.Controller.{Controller}
 use Rattle.numbers.specs.Words.{all?, some?}
 use Rattle.numbers.specs.Numbers.{last_counter, same_controller, controllers}
 use Rattle.numbers.proofs.Tests.{and_left, or_false, ◌∈◌}
-use Rattle.numbers.proofs.Lists.{none_in, all_in, passed, ◌and-also◌, all_passed}
+use Rattle.numbers.proofs.Lists.{none_in, all_in, passed, ◌and_also◌, all_passed}
 use Rattle.numbers.proofs.Controllers.{Crew}
 use Rattle.block.specs.Block.{block_at}
 use Rattle.block.proofs.Arrays.{upto_in}
@@ -109,4 +109,4 @@ module _ (s : State) (r : Reply) (formed : reply_formed s.table r ≡ true) wher
     pub filled_takable : takable s p.key (fill s.table p.key.job r.clock p.object) ≡ true
     unfolding takable
     filled_takable =
-        all_passed (filled_formed p m and-also held_here and-also filled_covered p m and-also ap not filled_not_ahead and-also ap not filled_no_clash and-also passed)
+        all_passed (filled_formed p m and_also held_here and_also filled_covered p m and_also ap not filled_not_ahead and_also ap not filled_no_clash and_also passed)

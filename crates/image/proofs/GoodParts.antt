@@ -10,7 +10,7 @@ use Rattle.numbers.specs.declared.Controller.{Controller}
 use Rattle.numbers.specs.Words.{every, all?, ascends?}
 use Rattle.numbers.specs.Numbers.{is_controller, same_controller, controllers}
 use Rattle.numbers.proofs.Tests.{same_test, and_left, and_right, and_both, and_group, ◌∈◌}
-use Rattle.numbers.proofs.Lists.{all_in, in_all, clause, Passed, passed, ◌and-also◌, all_passed}
+use Rattle.numbers.proofs.Lists.{all_in, in_all, clause, Passed, passed, ◌and_also◌, all_passed}
 use Rattle.meaning.specs.CrewTable.{is_table, holds}
 use Rattle.meaning.specs.Clock.{row, in_clock}
 use Rattle.meaning.specs.Context.{entry, fill_context}
@@ -77,7 +77,7 @@ module _ (s : State) (t : good_state s ≡ true) where
   unfolding head_good clauses own_column_known rows_sound own_row_whole rows_of_peers marks_of_peers own_marks_known own_entries_known peers
   the_head =
       all_passed
-      (own_good and-also c 1 and-also c 2 and-also c 13 and-also c 14 and-also c 15 and-also and_right entries_in_points entries_in_marks (c 16) and-also passed)
+      (own_good and_also c 1 and_also c 2 and_also c 13 and_also c 14 and_also c 15 and_also and_right entries_in_points entries_in_marks (c 16) and_also passed)
 
   abbrev held_points : Bool
   held_points = all? (λ p. holds s.table s.own p.key.job) s.points
@@ -96,22 +96,22 @@ module _ (s : State) (t : good_state s ≡ true) where
   the_own_dots =
       all_passed
       (all_left (listed_formed s.table) s.own_dots s.foreign_dots (c 5)
-      and-also and_left (ascends? listed_before s.own_dots) (ascends? listed_before s.foreign_dots) (c 6)
-      and-also and_left own_alone foreign_alone (c 7)
-      and-also all_left (λ l. holds s.table s.own l.key.job) s.own_dots s.foreign_dots (and_right held_points held_lists (c 8))
-      and-also all_left (λ l. in_clock s.clock l.dot) s.own_dots s.foreign_dots (c 11)
-      and-also passed)
+      and_also and_left (ascends? listed_before s.own_dots) (ascends? listed_before s.foreign_dots) (c 6)
+      and_also and_left own_alone foreign_alone (c 7)
+      and_also all_left (λ l. holds s.table s.own l.key.job) s.own_dots s.foreign_dots (and_right held_points held_lists (c 8))
+      and_also all_left (λ l. in_clock s.clock l.dot) s.own_dots s.foreign_dots (c 11)
+      and_also passed)
 
   the_foreign_dots : dots_good false s.own s.table s.clock s.foreign_dots ≡ true
   unfolding dots_good clauses lists_formed lists_ascend lists_apart jobs_held lists_in_clock
   the_foreign_dots =
       all_passed
       (all_right (listed_formed s.table) s.own_dots s.foreign_dots (c 5)
-      and-also and_right (ascends? listed_before s.own_dots) (ascends? listed_before s.foreign_dots) (c 6)
-      and-also and_right own_alone foreign_alone (c 7)
-      and-also all_right (λ l. holds s.table s.own l.key.job) s.own_dots s.foreign_dots (and_right held_points held_lists (c 8))
-      and-also all_right (λ l. in_clock s.clock l.dot) s.own_dots s.foreign_dots (c 11)
-      and-also passed)
+      and_also and_right (ascends? listed_before s.own_dots) (ascends? listed_before s.foreign_dots) (c 6)
+      and_also and_right own_alone foreign_alone (c 7)
+      and_also all_right (λ l. holds s.table s.own l.key.job) s.own_dots s.foreign_dots (and_right held_points held_lists (c 8))
+      and_also all_right (λ l. in_clock s.clock l.dot) s.own_dots s.foreign_dots (c 11)
+      and_also passed)
 
   the_records : all? (record_good s.own s.table s.clock) s.points ≡ true
   unfolding record_good clauses points_formed jobs_held versions_covered versions_in_clock own_entries_known records_needed
@@ -120,16 +120,16 @@ module _ (s : State) (t : good_state s ≡ true) where
       (λ p m.
       all_passed
       (all_in (λ q. point_formed s.table q.key q.object) s.points (c 3) m
-      and-also all_in (λ q. holds s.table s.own q.key.job) s.points (and_left held_points held_lists (c 8)) m
-      and-also all_in (λ q. covers_all (fill_context s.table q.key.job s.clock q.object.context) q.object.versions) s.points (c 9) m
-      and-also all_in (λ q. all? (λ v. in_clock s.clock v.dot) q.object.versions) s.points (c 10) m
-      and-also all_in (λ q. leb (entry q.object.context s.own).0 (own_base s)) s.points (and_left entries_in_points entries_in_marks (c 16)) m
-      and-also all_in (λ q. not (gone q.object)) s.points (c 17) m
-      and-also passed))
+      and_also all_in (λ q. holds s.table s.own q.key.job) s.points (and_left held_points held_lists (c 8)) m
+      and_also all_in (λ q. covers_all (fill_context s.table q.key.job s.clock q.object.context) q.object.versions) s.points (c 9) m
+      and_also all_in (λ q. all? (λ v. in_clock s.clock v.dot) q.object.versions) s.points (c 10) m
+      and_also all_in (λ q. leb (entry q.object.context s.own).0 (own_base s)) s.points (and_left entries_in_points entries_in_marks (c 16)) m
+      and_also all_in (λ q. not (gone q.object)) s.points (c 17) m
+      and_also passed))
 
   to_parts : parts_good s ≡ true
   unfolding parts_good clauses points_ascend
-  to_parts = all_passed (the_head and-also the_own_dots and-also the_foreign_dots and-also the_records and-also c 4 and-also c 12 and-also passed)
+  to_parts = all_passed (the_head and_also the_own_dots and_also the_foreign_dots and_also the_records and_also c 4 and_also c 12 and_also passed)
 
 -- ---- and back
 
@@ -186,30 +186,30 @@ module _ (s : State) (S : Shape s) (t : parts_good s ≡ true) where
   from_parts =
       all_passed
       (all_passed
-      (head 0 and-also S.table_good and-also eq-eqb (length s.clock) 8 S.clock_eight and-also eq-eqb (length s.watermark) 8 S.marks_eight and-also S.marks_rows
-      and-also le-leb (length s.own_dots) most_listed S.own_few and-also le-leb (length s.foreign_dots) most_listed S.foreign_few
-      and-also le-leb (length s.points) most_points S.points_few and-also passed)
-      and-also head 1
-      and-also head 2
-      and-also in_all (λ p. point_formed s.table p.key p.object) s.points (λ p m. one_record p m 0)
-      and-also part 4
-      and-also all_both (listed_formed s.table) s.own_dots s.foreign_dots (own 0) (foreign 0)
-      and-also and_both (ascends? listed_before s.own_dots) (ascends? listed_before s.foreign_dots) (own 1) (foreign 1)
-      and-also and_both (all? (λ l. same_controller l.dot.who s.own) s.own_dots) (all? (λ l. not (same_controller l.dot.who s.own)) s.foreign_dots) (own 2) (foreign 2)
-      and-also and_both (all? (λ p. holds s.table s.own p.key.job) s.points) (all? (λ l. holds s.table s.own l.key.job) (listed s))
+      (head 0 and_also S.table_good and_also eq-eqb (length s.clock) 8 S.clock_eight and_also eq-eqb (length s.watermark) 8 S.marks_eight and_also S.marks_rows
+      and_also le-leb (length s.own_dots) most_listed S.own_few and_also le-leb (length s.foreign_dots) most_listed S.foreign_few
+      and_also le-leb (length s.points) most_points S.points_few and_also passed)
+      and_also head 1
+      and_also head 2
+      and_also in_all (λ p. point_formed s.table p.key p.object) s.points (λ p m. one_record p m 0)
+      and_also part 4
+      and_also all_both (listed_formed s.table) s.own_dots s.foreign_dots (own 0) (foreign 0)
+      and_also and_both (ascends? listed_before s.own_dots) (ascends? listed_before s.foreign_dots) (own 1) (foreign 1)
+      and_also and_both (all? (λ l. same_controller l.dot.who s.own) s.own_dots) (all? (λ l. not (same_controller l.dot.who s.own)) s.foreign_dots) (own 2) (foreign 2)
+      and_also and_both (all? (λ p. holds s.table s.own p.key.job) s.points) (all? (λ l. holds s.table s.own l.key.job) (listed s))
       (in_all (λ p. holds s.table s.own p.key.job) s.points (λ p m. one_record p m 1))
       (all_both (λ l. holds s.table s.own l.key.job) s.own_dots s.foreign_dots (own 3) (foreign 3))
-      and-also in_all (λ p. covers_all (fill_context s.table p.key.job s.clock p.object.context) p.object.versions) s.points (λ p m. one_record p m 2)
-      and-also in_all (λ p. all? (λ v. in_clock s.clock v.dot) p.object.versions) s.points (λ p m. one_record p m 3)
-      and-also all_both (λ l. in_clock s.clock l.dot) s.own_dots s.foreign_dots (own 4) (foreign 4)
-      and-also part 5
-      and-also head 3
-      and-also head 4
-      and-also head 5
-      and-also and_both (all? (λ p. leb (entry p.object.context s.own).0 (own_base s)) s.points) (all? (λ m. leb (mark s.watermark m s.own) (own_base s)) controllers)
+      and_also in_all (λ p. covers_all (fill_context s.table p.key.job s.clock p.object.context) p.object.versions) s.points (λ p m. one_record p m 2)
+      and_also in_all (λ p. all? (λ v. in_clock s.clock v.dot) p.object.versions) s.points (λ p m. one_record p m 3)
+      and_also all_both (λ l. in_clock s.clock l.dot) s.own_dots s.foreign_dots (own 4) (foreign 4)
+      and_also part 5
+      and_also head 3
+      and_also head 4
+      and_also head 5
+      and_also and_both (all? (λ p. leb (entry p.object.context s.own).0 (own_base s)) s.points) (all? (λ m. leb (mark s.watermark m s.own) (own_base s)) controllers)
       (in_all (λ p. leb (entry p.object.context s.own).0 (own_base s)) s.points (λ p m. one_record p m 4)) (head 6)
-      and-also in_all (λ p. not (gone p.object)) s.points (λ p m. one_record p m 5)
-      and-also passed)
+      and_also in_all (λ p. not (gone p.object)) s.points (λ p m. one_record p m 5)
+      and_also passed)
 
 pub good_by_parts : (s : State) → Shape s → good_state s ≡ parts_good s
 good_by_parts s S = same_test (good_state s) (parts_good s) (to_parts s) (from_parts s S)

@@ -16,7 +16,7 @@ use Rattle.numbers.specs.Numbers.{last_counter, is_controller, is_counter, is_po
 use Rattle.numbers.specs.Dot.{same_dot}
 use Rattle.numbers.specs.Key.{is_key, same_key}
 use Rattle.numbers.proofs.Tests.{by_test, never, and_left, and_right, and_both, or_cases, or_inl, or_inr, ◌∈◌, here, there}
-use Rattle.numbers.proofs.Lists.{in_some, all_in, in_all, in_map, map_in, in_concat_map, concat_map_in, clause, Passed, passed, ◌and-also◌, all_passed}
+use Rattle.numbers.proofs.Lists.{in_some, all_in, in_all, in_map, map_in, in_concat_map, concat_map_in, clause, Passed, passed, ◌and_also◌, all_passed}
 use Rattle.numbers.proofs.Controllers.{Crew, crew_is, is_crew, crew_in, in_crew}
 use Rattle.numbers.proofs.Orders.{Ascends}
 use Rattle.numbers.proofs.Dots.{same_dots, dot_itself, same_keys, key_itself}
@@ -74,7 +74,7 @@ version_facts t j v e =
 
 pub version_of_facts : (t : CrewTable) (j : ℕ) (v : Version) → VersionFacts t j v → version_formed t j v ≡ true
 unfolding version_formed
-version_of_facts t j v F = all_passed (is_crew v.dot.who F.crew and-also F.holder and-also F.counter and-also F.contents and-also passed)
+version_of_facts t j v F = all_passed (is_crew v.dot.who F.crew and_also F.holder and_also F.counter and_also F.contents and_also passed)
 
 pub record VersionsFacts (t : CrewTable) (j : ℕ) (vs : List Version) : Type 0 where
   pub each : (v : Version) → v ∈ vs → VersionFacts t j v
@@ -150,8 +150,8 @@ pub point_of_facts : (t : CrewTable) (k : Key) (o : Object) → PointFacts t k o
 unfolding point_formed
 point_of_facts t k o F =
     all_passed
-    (F.key_good and-also le-leb (length o.versions) most_versions F.few
-    and-also versions_of_facts t k.job o.versions F.versions and-also context_of_facts t k.job o.context F.context and-also passed)
+    (F.key_good and_also le-leb (length o.versions) most_versions F.few
+    and_also versions_of_facts t k.job o.versions F.versions and_also context_of_facts t k.job o.context F.context and_also passed)
 
 pub covers_each : (c : Context) (vs : List Version) → covers_all c vs ≡ true → (v : Version) → v ∈ vs → covers c v.dot ≡ true
 unfolding covers_all

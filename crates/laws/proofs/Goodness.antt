@@ -11,7 +11,7 @@ use Rattle.numbers.specs.declared.Controller.{Controller}
 use Rattle.numbers.specs.Words.{every, all?, ascends?}
 use Rattle.numbers.specs.Numbers.{last_counter, is_controller, same_controller, controllers}
 use Rattle.numbers.proofs.Tests.{by_test, never, and_left, and_right, and_both, or_cases, or_inl, or_inr, ◌∈◌}
-use Rattle.numbers.proofs.Lists.{all_in, in_all, clause, Passed, passed, ◌and-also◌, all_passed}
+use Rattle.numbers.proofs.Lists.{all_in, in_all, clause, Passed, passed, ◌and_also◌, all_passed}
 use Rattle.numbers.proofs.Controllers.{Crew, crew_is, is_crew}
 use Rattle.numbers.proofs.Orders.{Ascends}
 use Rattle.row.specs.Row.{none_seen, fits, sound}
@@ -166,10 +166,10 @@ module _ (s : State) (G : Good s) where
   unfolding sized
   is_sized =
       all_passed
-      (is_crew s.own G.own_crew and-also G.table_good and-also eq-eqb (length s.clock) 8 G.clock_eight
-      and-also eq-eqb (length s.watermark) 8 G.marks_eight and-also G.marks_rows
-      and-also le-leb (length s.own_dots) most_listed G.own_few and-also le-leb (length s.foreign_dots) most_listed G.foreign_few
-      and-also le-leb (length s.points) most_points G.points_few and-also passed)
+      (is_crew s.own G.own_crew and_also G.table_good and_also eq-eqb (length s.clock) 8 G.clock_eight
+      and_also eq-eqb (length s.watermark) 8 G.marks_eight and_also G.marks_rows
+      and_also le-leb (length s.own_dots) most_listed G.own_few and_also le-leb (length s.foreign_dots) most_listed G.foreign_few
+      and_also le-leb (length s.points) most_points G.points_few and_also passed)
 
   are_rows_sound : rows_sound s ≡ true
   unfolding rows_sound
@@ -237,21 +237,21 @@ module _ (s : State) (G : Good s) where
   facts_good =
       all_passed
       (is_sized
-      and-also are_rows_sound
-      and-also eq-eqb (row s.clock s.own).bits 0 G.own_whole
-      and-also are_points_formed
-      and-also G.points_asc
-      and-also in_all (listed_formed s.table) (listed s) (λ l m. (G.lists l m).formed)
-      and-also and_both (ascends? listed_before s.own_dots) (ascends? listed_before s.foreign_dots) G.own_asc G.foreign_asc
-      and-also are_lists_apart
-      and-also are_jobs_held
-      and-also in_all (λ q. covers_all (fill_context s.table q.key.job s.clock q.object.context) q.object.versions) s.points (λ p m. each_covered _ _ (G.points p m).covered)
-      and-also in_all (λ q. all? (λ w. in_clock s.clock w.dot) q.object.versions) s.points (λ p m. in_all (λ w. in_clock s.clock w.dot) p.object.versions (G.points p m).known)
-      and-also in_all (λ x. in_clock s.clock x.dot) (listed s) (λ l m. (G.lists l m).known)
-      and-also are_dots_apart
-      and-also are_rows_of_peers
-      and-also are_marks_of_peers
-      and-also every_controller (λ m. leb (mark s.watermark s.own m) (row s.clock m).base) (λ n x. le-leb (mark s.watermark s.own n) (row s.clock n).base (G.marks_own_row n x))
-      and-also are_own_entries_known
-      and-also in_all (λ q. not (gone q.object)) s.points (λ p m. ap not (G.needed p m))
-      and-also passed)
+      and_also are_rows_sound
+      and_also eq-eqb (row s.clock s.own).bits 0 G.own_whole
+      and_also are_points_formed
+      and_also G.points_asc
+      and_also in_all (listed_formed s.table) (listed s) (λ l m. (G.lists l m).formed)
+      and_also and_both (ascends? listed_before s.own_dots) (ascends? listed_before s.foreign_dots) G.own_asc G.foreign_asc
+      and_also are_lists_apart
+      and_also are_jobs_held
+      and_also in_all (λ q. covers_all (fill_context s.table q.key.job s.clock q.object.context) q.object.versions) s.points (λ p m. each_covered _ _ (G.points p m).covered)
+      and_also in_all (λ q. all? (λ w. in_clock s.clock w.dot) q.object.versions) s.points (λ p m. in_all (λ w. in_clock s.clock w.dot) p.object.versions (G.points p m).known)
+      and_also in_all (λ x. in_clock s.clock x.dot) (listed s) (λ l m. (G.lists l m).known)
+      and_also are_dots_apart
+      and_also are_rows_of_peers
+      and_also are_marks_of_peers
+      and_also every_controller (λ m. leb (mark s.watermark s.own m) (row s.clock m).base) (λ n x. le-leb (mark s.watermark s.own n) (row s.clock n).base (G.marks_own_row n x))
+      and_also are_own_entries_known
+      and_also in_all (λ q. not (gone q.object)) s.points (λ p m. ap not (G.needed p m))
+      and_also passed)

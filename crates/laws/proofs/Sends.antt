@@ -17,7 +17,7 @@ use Rattle.numbers.specs.Words.{some?, all?, keep, place_all, map, ascends?}
 use Rattle.numbers.specs.Numbers.{is_controller, is_counter, same_controller, controllers}
 use Rattle.numbers.specs.Key.{is_key, key_before}
 use Rattle.numbers.proofs.Tests.{by_test, never, and_left, and_right, and_both, or_cases, or_inl, or_inr, ◌∈◌, here}
-use Rattle.numbers.proofs.Lists.{some_in, in_some, in_keep, in_all, in_map, map_length, in_place_all, clause, passed, ◌and-also◌, all_passed}
+use Rattle.numbers.proofs.Lists.{some_in, in_some, in_keep, in_all, in_map, map_length, in_place_all, clause, passed, ◌and_also◌, all_passed}
 use Rattle.numbers.proofs.Controllers.{Crew, crew_is, is_crew, same_controllers}
 use Rattle.numbers.proofs.Orders.{Ascends, place_all_ascends, map_ascends, keep_length, place_all_length}
 use Rattle.numbers.proofs.Dots.{key_order}
@@ -49,15 +49,15 @@ sends_outgoing s k b c d G P =
     (unfold outgoing_formed in
     (all_passed
     (is_crew s.own G.own_crew
-    and-also point_of_facts s.table k (written s k b c)
+    and_also point_of_facts s.table k (written s k b c)
     (record {
       key_good = P.fit.key_good (record { key = k; object = written s k b c }) (here refl);
       few = P.limits.versions_few (record { key = k; object = written s k b c }) (here refl);
       versions = P.fit.versions (record { key = k; object = written s k b c }) (here refl);
       context = P.fit.context (record { key = k; object = written s k b c }) (here refl);
     })
-    and-also each_covered (written s k b c).context (written s k b c).versions (λ v m. P.fit.covered (record { key = k; object = written s k b c }) v (here refl) m)
-    and-also passed)))
+    and_also each_covered (written s k b c).context (written s k b c).versions (λ v m. P.fit.covered (record { key = k; object = written s k b c }) v (here refl) m)
+    and_also passed)))
 
 -- ---- the own clock, in an ask and in a reply
 
@@ -85,10 +85,10 @@ unfolding clock_formed
 sends_clock s G working =
     all_passed
     (eq-eqb (length s.clock) 8 G.clock_eight
-    and-also at_every_row (λ r. fits r && sound r) s.clock (λ n c. and_both (fits (row s.clock n)) (sound (row s.clock n)) (G.row_sound n c).0 (G.row_sound n c).1)
-    and-also every_controller (λ n. in_some_job s.table n || is_none (row s.clock n)) idle
-    and-also eq-eqb (row s.clock s.own).bits 0 G.own_whole
-    and-also passed)
+    and_also at_every_row (λ r. fits r && sound r) s.clock (λ n c. and_both (fits (row s.clock n)) (sound (row s.clock n)) (G.row_sound n c).0 (G.row_sound n c).1)
+    and_also every_controller (λ n. in_some_job s.table n || is_none (row s.clock n)) idle
+    and_also eq-eqb (row s.clock s.own).bits 0 G.own_whole
+    and_also passed)
   where
     no_peer : (n : Controller) → in_some_job s.table n ≡ false → peers s s.own n ≡ false
     no_peer n f =
@@ -108,7 +108,7 @@ sends_ask s to a G e =
     let range = passes_not OutOfRange (is_controller to) _ e in
     let peer = passes_not NotPeer (other_peer s to) _ range.1 in
     subst (λ (x : Ask). ask_formed s.table x ≡ true) (same_accepted (record { sender = s.own; addressee = to; clock = s.clock }) a peer.1)
-    (unfold ask_formed in (all_passed (is_crew s.own G.own_crew and-also range.0 and-also sends_clock s G (has_peer s to peer.0) and-also passed)))
+    (unfold ask_formed in (all_passed (is_crew s.own G.own_crew and_also range.0 and_also sends_clock s G (has_peer s to peer.0) and_also passed)))
 
 -- ---- a reply
 
@@ -224,11 +224,11 @@ module _ (s : State) (G : Good s) (a : Ask) where
           unfold reply_formed in
           (all_passed
           (is_crew s.own G.own_crew
-          and-also asker
-          and-also sends_clock s G (has_peer s a.sender peered)
-          and-also in_all (λ p. point_formed s.table p.key p.object) sent (of_sent (λ p. point_formed s.table p.key p.object ≡ true) (λ k m. point_of_facts s.table k (look_up k s.points) (sent_facts k m)))
-          and-also in_all (λ p. covers_all (fill_context s.table p.key.job s.clock p.object.context) p.object.versions) sent
+          and_also asker
+          and_also sends_clock s G (has_peer s a.sender peered)
+          and_also in_all (λ p. point_formed s.table p.key p.object) sent (of_sent (λ p. point_formed s.table p.key p.object ≡ true) (λ k m. point_of_facts s.table k (look_up k s.points) (sent_facts k m)))
+          and_also in_all (λ p. covers_all (fill_context s.table p.key.job s.clock p.object.context) p.object.versions) sent
           (of_sent (λ p. covers_all (fill_context s.table p.key.job s.clock p.object.context) p.object.versions ≡ true) (λ k m. each_covered _ _ (sent_covered k)))
-          and-also sent_ascends
-          and-also sent_agree
-          and-also passed))
+          and_also sent_ascends
+          and_also sent_agree
+          and_also passed))

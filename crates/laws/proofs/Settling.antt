@@ -14,7 +14,7 @@ use Rattle.numbers.specs.Words.{fold, every, some?, all?}
 use Rattle.numbers.specs.Numbers.{is_controller, is_counter, is_job, is_point, same_controller}
 use Rattle.numbers.specs.Key.{is_key, same_key}
 use Rattle.numbers.proofs.Tests.{by_test, never, and_left, and_both, or_inr, ◌∈◌, here, there}
-use Rattle.numbers.proofs.Lists.{in_some, passed, ◌and-also◌, all_passed, clause}
+use Rattle.numbers.proofs.Lists.{in_some, passed, ◌and_also◌, all_passed, clause}
 use Rattle.numbers.proofs.Controllers.{Crew, crew_is, is_crew, same_controllers, controller_itself}
 use Rattle.numbers.proofs.Orders.{Ascends}
 use Rattle.row.specs.declared.Row.{Row}
@@ -259,7 +259,7 @@ module _ (s : State) (k : Clock) (rs : List Stored) (G : Good s) (R : Results s 
           let d = in_dots rs h in
           subst (λ (z : Listed). ListedFacts s.table s.own after z) (sym d.same)
           (record {
-            formed = unfold listed_formed in (all_passed (R.key_good d.point d.point_in and-also is_crew d.version.dot.who (dot_facts x h).crew and-also (dot_facts x h).holder and-also (dot_facts x h).counter and-also passed));
+            formed = unfold listed_formed in (all_passed (R.key_good d.point d.point_in and_also is_crew d.version.dot.who (dot_facts x h).crew and_also (dot_facts x h).holder and_also (dot_facts x h).counter and_also passed));
             held = R.held d.point d.point_in;
             known = entering d.point d.version d.point_in d.version_in;
           })

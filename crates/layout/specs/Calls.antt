@@ -49,8 +49,8 @@ whole_image img = eqb (length img) image_length
 
 -- the table's rows 1 and 2, and then the step on what the image says
 unfoldable pub on_image : {A : Type 0} → Bool → List ℕ → (State → Answer A) → Answer A
-on_image lengths-right image step =
-    refuse WrongLength when not (whole_image image && lengths-right) else
+on_image lengths_right image step =
+    refuse WrongLength when not (whole_image image && lengths_right) else
     refuse ImageNotGood when not (good_image image) else
     step (decode image)
 

@@ -166,14 +166,14 @@ clause (b ∷ bs) t zero = and_left b (every bs) t
 clause (b ∷ bs) t (suc i) = clause bs (and_right b (every bs) t) i
 
 -- each of them passes
-infixr 40 ◌and-also◌
+infixr 40 ◌and_also◌
 pub data Passed : List Bool → Type 0 where
   passed : Passed []
-  ◌and-also◌ : {b : Bool} {bs : List Bool} → b ≡ true → Passed bs → Passed (b ∷ bs)
+  ◌and_also◌ : {b : Bool} {bs : List Bool} → b ≡ true → Passed bs → Passed (b ∷ bs)
 
 pub all_passed : {bs : List Bool} → Passed bs → every bs ≡ true
 all_passed passed = refl
-all_passed (◌and-also◌ {b = b} {bs = bs} p ps) = and_both b (every bs) p (all_passed ps)
+all_passed (◌and_also◌ {b = b} {bs = bs} p ps) = and_both b (every bs) p (all_passed ps)
 
 -- one of them fails, and so do all
 pub failed : (bs : List Bool) (i : ℕ) → get_or bs i true ≡ false → false ≡ every bs
@@ -183,4 +183,4 @@ failed bs i t = by_test (every bs) (λ e. never (clause bs e i) t) (λ e. sym e)
 pub last_test : (bs : List Bool) (b : Bool) → Passed bs → b ≡ every (bs ++ (b ∷ []))
 last_test bs true passed = refl
 last_test bs false passed = refl
-last_test bs b (◌and-also◌ {b = a} {bs = cs} p ps) = last_test cs b ps ∙ sym (and_passed a (every (cs ++ (b ∷ []))) p)
+last_test bs b (◌and_also◌ {b = a} {bs = cs} p ps) = last_test cs b ps ∙ sym (and_passed a (every (cs ++ (b ∷ []))) p)

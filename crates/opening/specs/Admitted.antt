@@ -8,11 +8,11 @@ use Rattle.layout.specs.Calls.{on_image}
 
 -- rows 1 and 2 alone. The lengths of the other buffers are right, or not
 abbrev pub opened : List ℕ → Bool → Answer Bool
-opened image lengths-right = on_image lengths-right image λ s. accepted true
+opened image lengths_right = on_image lengths_right image λ s. accepted true
 
 -- and row 5
 unfoldable pub admitted : List ℕ → Bool → Key → Answer Bool
-admitted image lengths-right k =
-    on_image lengths-right image λ s.
+admitted image lengths_right k =
+    on_image lengths_right image λ s.
     refuse OutOfRange when not (ours s k) else
     accepted true

@@ -29,6 +29,7 @@ use Rattle.meaning.specs.Object.{has_value, Object, gone}
 use Rattle.meaning.specs.Message.{point_formed, covers_all}
 use Rattle.laws.proofs.ContextLaws.{le_covers, covers_within, fill_holder, fill_other, fill_raises}
 use Rattle.laws.proofs.Facts.{point_facts}
+use Rattle.layout.specs.Clocks.{decode_clock}
 use Rattle.layout.specs.PointBlock.{form_1, decode_contents, decode_slot, decode_context, decode_point, decode_stored}
 use Rattle.parts.proofs.Lookup.{field_of_cut}
 use Rattle.record.specs.RecordGood.{record_good}
@@ -90,6 +91,10 @@ module _ (c : Context) {d x : Dot} {n : Counter} (r : d ≡ x) (s : n ≡ entry 
         where
           filled : (entry (fill_context t job k c) d.who).0 ≡ max (entry c d.who).0 (row k d.who).base
           filled = fill_holder t job k c d.who crew (ap (holds t d.who) (sym q) ∙ h)
+
+-- the context of the point block, filled by the table and the rows
+abbrev pub filled : List ℕ → List ℕ → List ℕ → Context
+filled b table rows = fill_context table (field b 4 1) (decode_clock rows) (decode_point form_1 b).object.context
 
 -- the versions one by one
 pub all_covered : (b : List ℕ) (c : Context) {count : ℕ} → field b 5 1 ≤ 8 → count ≡ field b 5 1

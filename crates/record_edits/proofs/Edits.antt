@@ -283,7 +283,7 @@ module _ (b : List ℕ) (small : Bytes b) (size : length b ≡ 512) (laid : Laid
     pub version_inserted : (slot b1 b2 x : List ℕ) → Bytes slot → length slot ≡ 32 → encode_slot form_1 (decode_slot form_1 slot) ≡ slot → i ≤ length (decode_point form_1 b).object.versions → length (decode_point form_1 b).object.versions < 8
         → b1 ≡ splice b (40 + 32 * i + 32) (8 * (4 * (n - i))) (cut b (40 + 32 * i) (8 * (4 * (n - i)))) → b2 ≡ splice b1 (40 + 32 * i) (length slot) slot → x ≡ splice b2 5 1 (le 1 (n + 1))
         → (point_block x ≡ with_versions (point_block b) (insert_at (decode_point form_1 b).object.versions i (decode_slot form_1 slot))) × Laid lay_point point_block x
-    version_inserted slot b1 b2 x sb size-slot back low few p1 p2 p3 =
+    version_inserted slot b1 b2 x sb size_slot back low few p1 p2 p3 =
         counted (insert_at vs i v) x (n + 1)
         (record {
           sender = P.sender;
@@ -291,7 +291,7 @@ module _ (b : List ℕ) (small : Bytes b) (size : length b ≡ 512) (laid : Laid
           point = P.point;
           few = omega (arith, sym more, n_length);
           context = P.context;
-          versions = all_of_splice (SlotSized form_1) vs i 0 (v ∷ []) P.versions (only (SlotSized form_1) v (slot_decoded slot sb size-slot));
+          versions = all_of_splice (SlotSized form_1) vs i 0 (v ∷ []) P.versions (only (SlotSized form_1) v (slot_decoded slot sb size_slot));
         })
         more
         (subst (Body x) (ap (λ (z : List ℕ). splice z 5 1 (le 1 (n + 1))) done) (body_put 5 1 (le 1 (n + 1)) step_2 (omega arith) (le_length 1 (n + 1)) p3))
@@ -309,10 +309,10 @@ module _ (b : List ℕ) (small : Bytes b) (size : length b ≡ 512) (laid : Laid
         step_1 = body_move (40 + 32 * i) (40 + 32 * i + 32) (32 * (length vs - i)) was_around (omega (arith, n_length)) (omega (arith, n_length)) (p1 ∙ ap (λ (m : ℕ). splice b (40 + 32 * i + 32) m (cut b (40 + 32 * i) m)) moved)
 
         step_2 : Body b2 (splice (splice (around vs) (40 + 32 * i + 32) (32 * (length vs - i)) (cut (around vs) (40 + 32 * i) (32 * (length vs - i)))) (40 + 32 * i) 32 (encode_slot form_1 v))
-        step_2 = body_put (40 + 32 * i) 32 (encode_slot form_1 v) step_1 (omega (arith, n_length)) (ap length back ∙ size-slot) (p2 ∙ ap₂ (λ (m : ℕ) (l : List ℕ). splice b1 (40 + 32 * i) m l) size-slot (sym back))
+        step_2 = body_put (40 + 32 * i) 32 (encode_slot form_1 v) step_1 (omega (arith, n_length)) (ap length back ∙ size_slot) (p2 ∙ ap₂ (λ (m : ℕ) (l : List ℕ). splice b1 (40 + 32 * i) m l) size_slot (sym back))
 
         done : splice (splice (around vs) (40 + 32 * i + 32) (32 * (length vs - i)) (cut (around vs) (40 + 32 * i) (32 * (length vs - i)))) (40 + 32 * i) 32 (encode_slot form_1 v) ≡ around (insert_at vs i v)
-        done = inside_insert 32 256 (encode_slot form_1) vs each_slot front (last w) 40 front_length (omega (arith, P.few)) v i low (ap length back ∙ size-slot) (omega arith)
+        done = inside_insert 32 256 (encode_slot form_1) vs each_slot front (last w) 40 front_length (omega (arith, P.few)) v i low (ap length back ∙ size_slot) (omega arith)
 
     pub version_removed : (b1 b2 x : List ℕ) → i < length (decode_point form_1 b).object.versions
         → b1 ≡ splice b (40 + 32 * i) (8 * (4 * (n - i - 1))) (cut b (40 + 32 * i + 32) (8 * (4 * (n - i - 1)))) → b2 ≡ splice b1 (8 + 32 * n) (40 + 32 * n - (8 + 32 * n)) (zeros (40 + 32 * n - (8 + 32 * n))) → x ≡ splice b2 5 1 (le 1 (n - 1))

@@ -9,6 +9,7 @@ use Rattle.apart.proofs.Lent.{lent_size}
 use Rattle.apart.proofs.Earlier.{Going, none_gone, was_new, was_marked, stood, all_fresh, all_noted, count_read}
 use native.Mathlib.Omega.{arith}
 use Rattle.apart.proofs.apart_from_earlier.Goals as goal
+use Rattle.apart.proofs.apart_from_earlier.Goals.{then-mark_dot+else-among, else-mark_dot}
 
 pub version_count-count-requires : goal.version_count-count-requires
 version_count-count-requires c = lent_size c.args.points.now (c.args.j + 1) c.args.j (omega arith) c.requires.0
@@ -33,7 +34,7 @@ pub loop-i-preserved : goal.loop-i-preserved
 loop-i-preserved c = let a = c.args in
     let next = was_new a.points.now a.j c.loop-i.marks c.loop-i.i c.loop-i.invariant (omega (arith, count_read a.points.now a.j c.version_count-count.ensures)) c.version_dot-d.result c.version_dot-d.ensures c.mark_dot.ensures.0 c.mark_dot.ensures.1 in
     let stays = was_marked a.points.now a.j c.loop-i.marks c.loop-i.i c.loop-i.invariant (omega (arith, count_read a.points.now a.j c.version_count-count.ensures)) c.version_dot-d.result c.version_dot-d.ensures c.mark_dot.ensures.0 c.mark_dot.ensures.1 in
-    ⊎_elim (λ w. stays (sym w.1.ensures ∙ w.2.left)) (λ w. next w.left) c.if-mark_dot.branch
+    elim c.if-mark_dot.branch [ then-mark_dot+else-among w ↦ stays (sym w.among.ensures ∙ w.if-among.false) | else-mark_dot w ↦ next w.if-mark_dot.false ]
 
 pub returns : goal.returns
 returns c = let a = c.args in

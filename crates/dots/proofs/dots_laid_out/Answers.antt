@@ -4,7 +4,7 @@ use Prim.Native.Nat.{ℕ, ◌+◌, ◌*◌, ◌-◌}
 use native.Mathlib.Omega.{arith}
 use borrow.Author.Tests.{not-true, not-false, le-leb, lt-leb}
 use Rattle.block.proofs.Numbers.{bytes_of}
-use Rattle.numbers.proofs.Lists.{passed, ◌and-also◌}
+use Rattle.numbers.proofs.Lists.{passed, ◌and_also◌}
 use Rattle.block.specs.Fields.{field}
 use Rattle.numbers.proofs.Tests.{read_is, read_is_not}
 use Rattle.block.proofs.Same.{zero_at}
@@ -53,11 +53,11 @@ returns c = let b = c.args.b.now in
     ∙ laid_out b (bytes_of b c.type_inv.b)
     (search rules) c.args.position
     (search rules) (read_is c.u8_at.ensures c.if-u8_at-ne2.false
-    and-also read_is c.u8_at-2.ensures
+    and_also read_is c.u8_at-2.ensures
     c.if-u8_at-ne1.false
-    and-also read_is c.u16_at.ensures
+    and_also read_is c.u16_at.ensures
     c.if-u16_at-position.false
-    and-also le-leb (field b 4 2) 60 (omega (arith, c.entry_count-n.ensures))
-    and-also (sym c.is_zero.ensures ∙ not-false _ c.if-not-is_zero.false-raw)
-    and-also (ap (λ (n : ℕ). zero_at b (8 + 8 * n) (508 - (8 + 8 * n))) (sym c.entry_count-n.ensures) ∙ sym c.is_zero-2.ensures ∙ not-false _ c.if-not-is_zero-2.false-raw)
-    and-also passed)
+    and_also le-leb (field b 4 2) 60 (omega (arith, c.entry_count-n.ensures))
+    and_also (sym c.is_zero.ensures ∙ not-false _ c.if-not-is_zero.false-raw)
+    and_also (ap (λ (n : ℕ). zero_at b (8 + 8 * n) (508 - (8 + 8 * n))) (sym c.entry_count-n.ensures) ∙ sym c.is_zero-2.ensures ∙ not-false _ c.if-not-is_zero-2.false-raw)
+    and_also passed)

@@ -4,7 +4,7 @@ use mathlib.Core.Path.{ap, ap₂, sym, ◌∙◌, subst}
 use borrow.Author.Tests.{not-true, not-false}
 use Rattle.numbers.specs.declared.Controller.{Controller}
 use Rattle.numbers.specs.Numbers.{is_controller, Crew}
-use Rattle.numbers.proofs.Lists.{passed, ◌and-also◌}
+use Rattle.numbers.proofs.Lists.{passed, ◌and_also◌}
 use Rattle.numbers.proofs.Controllers.{crew_is}
 use Rattle.meaning.specs.Message.{clock_formed}
 use Rattle.meaning.specs.Clock.{Clock}
@@ -22,4 +22,4 @@ pub clock_formed-requires : goal.clock_formed-requires
 clock_formed-requires c = (search rules, crew_is c.sender_of-sender.result (sym c.is_controller.ensures ∙ not-false _ c.if-not-is_controller.false-raw), search rules)
 
 pub returns : goal.returns
-returns c = c.clock_formed.ensures ∙ ap₂ (λ (n : Controller) (k : Clock). clock_formed c.args.table.now n k) c.sender_of-sender.ensures (clock_of c.args.table.now c.args.b.now) ∙ by_clock c.args.table.now c.args.b.now (((sym (c.is_controller.ensures ∙ ap is_controller c.sender_of-sender.ensures)) ∙ not-false _ c.if-not-is_controller.false-raw) and-also ((sym (c.is_controller-2.ensures ∙ ap is_controller c.addressee_of.ensures)) ∙ not-false _ c.if-not-is_controller-2.false-raw) and-also passed)
+returns c = c.clock_formed.ensures ∙ ap₂ (λ (n : Controller) (k : Clock). clock_formed c.args.table.now n k) c.sender_of-sender.ensures (clock_of c.args.table.now c.args.b.now) ∙ by_clock c.args.table.now c.args.b.now (((sym (c.is_controller.ensures ∙ ap is_controller c.sender_of-sender.ensures)) ∙ not-false _ c.if-not-is_controller.false-raw) and_also ((sym (c.is_controller-2.ensures ∙ ap is_controller c.addressee_of.ensures)) ∙ not-false _ c.if-not-is_controller-2.false-raw) and_also passed)

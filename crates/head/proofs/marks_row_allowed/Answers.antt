@@ -11,6 +11,7 @@ use Rattle.layout.specs.Image.{decode_marks}
 use Rattle.head.specs.HeadParts.{mark_allowed, marks_row_allowed}
 use Rattle.head.proofs.Marks.{mark_zero, mark_of_peers, mark_not_of, mark_not_about}
 use Rattle.head.proofs.marks_row_allowed.Goals as goal
+use Rattle.head.proofs.marks_row_allowed.Goals.{then-mark_at-ne0+else-not-peers+else-not-peers-2, else-mark_at-ne0}
 
 pub loop-n-init : goal.loop-n-init
 loop-n-init c = none_yet
@@ -24,7 +25,11 @@ unfolding marks_row_allowed
 returns-then-not-peers-2 c = let a = c.args in let n = controller c.loop-n.n in one_fails c.loop-n.invariant c.loop-n-test.true (mark_not_about a.own a.table.now (decode_marks a.marks.now) a.m n (λ z. c.if-mark_at-ne0.true (c.mark_at.ensures ∙ z)) (sym c.peers-then-mark_at-ne0.ensures ∙ not-true _ c.if-not-peers-2.true-raw))
 
 pub loop-n-preserved : goal.loop-n-preserved
-loop-n-preserved c = let a = c.args in let n = controller c.loop-n.n in one_more c.loop-n.invariant c.loop-n-test.true (⊎_elim (λ w. mark_of_peers a.own a.table.now (decode_marks a.marks.now) a.m n (omega (arith, c.mark_at.ensures)) (sym w.1.ensures ∙ not-false _ w.2.left) (sym w.3.ensures ∙ not-false _ w.4.left)) (λ w. mark_zero a.own a.table.now (decode_marks a.marks.now) a.m n (sym c.mark_at.ensures ∙ w.left)) c.if-mark_at-ne0.branch)
+loop-n-preserved c = let a = c.args in let n = controller c.loop-n.n in one_more c.loop-n.invariant c.loop-n-test.true
+    (elim c.if-mark_at-ne0.branch [
+      | then-mark_at-ne0+else-not-peers+else-not-peers-2 w ↦ mark_of_peers a.own a.table.now (decode_marks a.marks.now) a.m n (omega (arith, c.mark_at.ensures)) (sym w.peers.ensures ∙ not-false _ w.if-not-peers.false-raw) (sym w.peers-then-mark_at-ne0.ensures ∙ not-false _ w.if-not-peers-2.false-raw)
+      | else-mark_at-ne0 w ↦ mark_zero a.own a.table.now (decode_marks a.marks.now) a.m n (sym c.mark_at.ensures ∙ w.if-mark_at-ne0.false)
+    ])
 
 pub returns : goal.returns
 unfolding marks_row_allowed

@@ -3,7 +3,7 @@ use mathlib.Core.Path.{sym, ap, ◌∙◌}
 use native.Mathlib.Omega.{arith}
 use borrow.Author.Tests.{not-true, not-false}
 use Rattle.numbers.proofs.Controllers.{is_crew}
-use Rattle.numbers.proofs.Lists.{passed, ◌and-also◌}
+use Rattle.numbers.proofs.Lists.{passed, ◌and_also◌}
 use Rattle.numbers.proofs.Tests.{read_is, read_is_not}
 use Rattle.row.specs.declared.Row.{Row}
 use Rattle.layout.specs.Image.{decode_marks}
@@ -34,4 +34,4 @@ pub returns-then-not-own_row_known : goal.returns-then-not-own_row_known
 returns-then-not-own_row_known c = let a = c.args in not_good a.own a.table.now a.rows.now a.marks.now 5 (sym c.own_row_known.ensures ∙ not-true _ c.if-not-own_row_known.true-raw)
 
 pub returns : goal.returns
-returns c = let a = c.args in c.own_column_known.ensures ∙ ap (λ (r : Row). own_column a.own r.base (decode_marks a.marks.now)) c.row_at-ours.ensures ∙ good a.own a.table.now a.rows.now a.marks.now (is_crew a.own (search rules) and-also (sym c.rows_sound.ensures ∙ not-false _ c.if-not-rows_sound.false-raw) and-also read_is (ap (λ (r : Row). r.bits) c.row_at-ours.ensures) c.if-ours-ne0.false and-also (sym c.rows_allowed.ensures ∙ not-false _ c.if-not-rows_allowed.false-raw) and-also (sym c.marks_allowed.ensures ∙ not-false _ c.if-not-marks_allowed.false-raw) and-also (sym c.own_row_known.ensures ∙ not-false _ c.if-not-own_row_known.false-raw) and-also passed)
+returns c = let a = c.args in c.own_column_known.ensures ∙ ap (λ (r : Row). own_column a.own r.base (decode_marks a.marks.now)) c.row_at-ours.ensures ∙ good a.own a.table.now a.rows.now a.marks.now (is_crew a.own (search rules) and_also (sym c.rows_sound.ensures ∙ not-false _ c.if-not-rows_sound.false-raw) and_also read_is (ap (λ (r : Row). r.bits) c.row_at-ours.ensures) c.if-ours-ne0.false and_also (sym c.rows_allowed.ensures ∙ not-false _ c.if-not-rows_allowed.false-raw) and_also (sym c.marks_allowed.ensures ∙ not-false _ c.if-not-marks_allowed.false-raw) and_also (sym c.own_row_known.ensures ∙ not-false _ c.if-not-own_row_known.false-raw) and_also passed)

@@ -12,6 +12,7 @@ use Rattle.meaning.specs.Message.{is_none}
 use Rattle.layout.specs.Clocks.{decode_clock}
 use Rattle.head.specs.HeadParts.{peers_by, row_allowed, rows_allowed}
 use Rattle.head.proofs.rows_allowed.Goals as goal
+use Rattle.head.proofs.rows_allowed.Goals.{then-not-row_none+else-not-peers, else-not-row_none}
 
 pub loop-n-init : goal.loop-n-init
 loop-n-init c = none_yet
@@ -21,7 +22,11 @@ unfolding rows_allowed
 returns-then-not-peers c = let a = c.args in let n = controller c.loop-n.n in one_fails c.loop-n.invariant c.loop-n-test.true (or_neither (peers_by a.table.now a.own n) (is_none (row (decode_clock a.rows.now) n)) (sym c.peers.ensures ∙ not-true _ c.if-not-peers.true-raw) (ap is_none (sym c.row_at.ensures) ∙ sym c.row_none.ensures ∙ not-true _ c.if-not-row_none.true-raw))
 
 pub loop-n-preserved : goal.loop-n-preserved
-loop-n-preserved c = let a = c.args in let n = controller c.loop-n.n in one_more c.loop-n.invariant c.loop-n-test.true (⊎_elim (λ w. or_inl (peers_by a.table.now a.own n) (is_none (row (decode_clock a.rows.now) n)) (sym w.1.ensures ∙ not-false _ w.2.left)) (λ w. or_inr (peers_by a.table.now a.own n) (is_none (row (decode_clock a.rows.now) n)) (ap is_none (sym c.row_at.ensures) ∙ sym c.row_none.ensures ∙ not-false _ w.left)) c.if-not-row_none.branch)
+loop-n-preserved c = let a = c.args in let n = controller c.loop-n.n in one_more c.loop-n.invariant c.loop-n-test.true
+    (elim c.if-not-row_none.branch [
+      | then-not-row_none+else-not-peers w ↦ or_inl (peers_by a.table.now a.own n) (is_none (row (decode_clock a.rows.now) n)) (sym w.peers.ensures ∙ not-false _ w.if-not-peers.false-raw)
+      | else-not-row_none w ↦ or_inr (peers_by a.table.now a.own n) (is_none (row (decode_clock a.rows.now) n)) (ap is_none (sym c.row_at.ensures) ∙ sym c.row_none.ensures ∙ not-false _ w.if-not-row_none.false-raw)
+    ])
 
 pub returns : goal.returns
 unfolding rows_allowed

@@ -10,6 +10,7 @@ use Rattle.numbers.proofs.Tests.{and_both, and_first, and_second}
 use Rattle.meaning.specs.CrewTable.{holds, share_job}
 use Rattle.head.proofs.Rounds.{NoneTo, some_job, no_job}
 use Rattle.head.proofs.shares_job.Goals as goal
+use Rattle.head.proofs.shares_job.Goals.{then-holds+else-holds-2, else-holds}
 
 pub loop-j-init : goal.loop-j-init
 loop-j-init c = (omega arith, λ k l. absurd (omega arith))
@@ -19,7 +20,16 @@ unfolding share_job
 returns-then-holds-2 c = let a = c.args in some_job (λ i. holds a.table.now a.n i && holds a.table.now a.m i) c.loop-j.j c.loop-j-test.true (and_both (holds a.table.now a.n c.loop-j.j) (holds a.table.now a.m c.loop-j.j) (sym c.holds.ensures ∙ c.if-holds.true) (sym c.holds-then-holds.ensures ∙ c.if-holds-2.true))
 
 pub loop-j-preserved : goal.loop-j-preserved
-loop-j-preserved c = let a = c.args in let j = c.loop-j.j in (omega arith, below_more (λ i. (holds a.table.now a.n i && holds a.table.now a.m i) ≡ false) j c.loop-j.invariant.1 (⊎_elim (λ w. and_second (holds a.table.now a.n j) (holds a.table.now a.m j) (sym w.1.ensures ∙ w.2.left)) (λ w. and_first (holds a.table.now a.n j) (holds a.table.now a.m j) (sym c.holds.ensures ∙ w.left)) c.if-holds.branch))
+loop-j-preserved c =
+    let a = c.args in
+    let j = c.loop-j.j in (
+      omega arith,
+      below_more (λ i. (holds a.table.now a.n i && holds a.table.now a.m i) ≡ false) j c.loop-j.invariant.1
+          (elim c.if-holds.branch [
+            | then-holds+else-holds-2 w ↦ and_second (holds a.table.now a.n j) (holds a.table.now a.m j) (sym w.holds-then-holds.ensures ∙ w.if-holds-2.false)
+            | else-holds w ↦ and_first (holds a.table.now a.n j) (holds a.table.now a.m j) (sym c.holds.ensures ∙ w.if-holds.false)
+          ]),
+    )
 
 pub returns : goal.returns
 unfolding share_job

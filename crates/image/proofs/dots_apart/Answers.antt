@@ -1,5 +1,5 @@
 use mathlib.Core.Path.{◌∙◌}
-use Rattle.numbers.proofs.Lists.{passed, ◌and-also◌}
+use Rattle.numbers.proofs.Lists.{passed, ◌and_also◌}
 use Rattle.block.proofs.Passing.{said_no, said_yes}
 use Rattle.image.proofs.Whole.{not_apart, apart_last}
 use borrow.Author.Rules.{rules}
@@ -12,4 +12,4 @@ pub returns-then-not-list_agrees : goal.returns-then-not-list_agrees
 returns-then-not-list_agrees c = not_apart c.args.image.now c.args.count 1 (said_no c.list_agrees.ensures c.if-not-list_agrees.true-raw)
 
 pub returns : goal.returns
-returns c = c.list_agrees-2.ensures ∙ apart_last c.args.image.now c.args.count (said_yes c.records_apart.ensures c.if-not-records_apart.false-raw and-also said_yes c.list_agrees.ensures c.if-not-list_agrees.false-raw and-also passed)
+returns c = c.list_agrees-2.ensures ∙ apart_last c.args.image.now c.args.count (said_yes c.records_apart.ensures c.if-not-records_apart.false-raw and_also said_yes c.list_agrees.ensures c.if-not-list_agrees.false-raw and_also passed)

@@ -1,6 +1,6 @@
 use native.Mathlib.Omega.{arith}
 use mathlib.Core.Path.{◌∙◌}
-use Rattle.numbers.proofs.Lists.{passed, ◌and-also◌}
+use Rattle.numbers.proofs.Lists.{passed, ◌and_also◌}
 use Rattle.block.proofs.Passing.{said_no, said_yes}
 use Rattle.image.proofs.Counted.{stored_few}
 use Rattle.image.proofs.Whole.{not_laid_out, laid_out, head_part, own_part, foreign_part, points_part, rest_part}
@@ -32,4 +32,4 @@ pub is_zero-requires : goal.is_zero-requires
 is_zero-requires c = (omega (arith, stored_few c.args.image.now, c.stored_count-count.ensures), omega arith)
 
 pub returns : goal.returns
-returns c = rest_part c.args.image.now c.stored_count-count.result c.is_zero.result c.requires c.stored_count-count.ensures c.is_zero.ensures ∙ laid_out c.args.image.now (said_yes (head_part c.args.image.now c.head_laid_out.result c.head_laid_out.ensures) c.if-not-head_laid_out.false-raw and-also said_yes (own_part c.args.image.now c.dots_laid_out.result c.dots_laid_out.ensures) c.if-not-dots_laid_out.false-raw and-also said_yes (foreign_part c.args.image.now c.dots_laid_out-2.result c.dots_laid_out-2.ensures) c.if-not-dots_laid_out-2.false-raw and-also said_yes (points_part c.args.image.now c.stored_count-count.result c.points_laid_out.result c.stored_count-count.ensures c.points_laid_out.ensures) c.if-not-points_laid_out.false-raw and-also passed)
+returns c = rest_part c.args.image.now c.stored_count-count.result c.is_zero.result c.requires c.stored_count-count.ensures c.is_zero.ensures ∙ laid_out c.args.image.now (said_yes (head_part c.args.image.now c.head_laid_out.result c.head_laid_out.ensures) c.if-not-head_laid_out.false-raw and_also said_yes (own_part c.args.image.now c.dots_laid_out.result c.dots_laid_out.ensures) c.if-not-dots_laid_out.false-raw and_also said_yes (foreign_part c.args.image.now c.dots_laid_out-2.result c.dots_laid_out-2.ensures) c.if-not-dots_laid_out-2.false-raw and_also said_yes (points_part c.args.image.now c.stored_count-count.result c.points_laid_out.result c.stored_count-count.ensures c.points_laid_out.ensures) c.if-not-points_laid_out.false-raw and_also passed)

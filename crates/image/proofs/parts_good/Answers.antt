@@ -1,7 +1,7 @@
 use native.Mathlib.Omega.{arith}
 use mathlib.Core.Bool.{true, false}
 use mathlib.Core.Path.{◌∙◌}
-use Rattle.numbers.proofs.Lists.{passed, ◌and-also◌}
+use Rattle.numbers.proofs.Lists.{passed, ◌and_also◌}
 use Rattle.block.specs.Fields.{cut}
 use Rattle.block.proofs.Numbers.{bytes_of}
 use Rattle.block.proofs.Passing.{said_no, said_yes}
@@ -42,4 +42,4 @@ pub dots_apart-requires : goal.dots_apart-requires
 dots_apart-requires c = (omega arith, omega (arith, stored_few c.args.image.now, c.stored_count-count.ensures), points_few c.args.image.now (bytes_of c.args.image.now c.type_inv.image) c.requires.0 c.requires.1 c.stored_count-count.result (omega (arith, stored_few c.args.image.now, c.stored_count-count.ensures)) c.stored_count-count.ensures, (own_few c.args.image.now (bytes_of c.args.image.now c.type_inv.image) c.requires.0 c.requires.1, own_list_ascends c.args.image.now c.requires.0 (said_yes (list_good c.args.image.now true 512 c.own_of-own.result c.own_of-own.ensures c.dots_good.result c.dots_good.ensures) c.if-not-dots_good.false-raw)), (foreign_few c.args.image.now (bytes_of c.args.image.now c.type_inv.image) c.requires.0 c.requires.1, foreign_list_ascends c.args.image.now c.requires.0 (said_yes (list_good c.args.image.now false 1024 c.own_of-own.result c.own_of-own.ensures c.dots_good-2.result c.dots_good-2.ensures) c.if-not-dots_good-2.false-raw)))
 
 pub returns : goal.returns
-returns c = apart_is c.args.image.now c.requires.0 (said_yes (ascend_are c.args.image.now c.stored_count-count.result c.stored_count-count.ensures c.points_ascend.result c.points_ascend.ensures) c.if-not-points_ascend.false-raw) c.stored_count-count.result c.dots_apart.result c.stored_count-count.ensures c.dots_apart.ensures ∙ good_last c.args.image.now c.requires.0 (said_yes c.head_good.ensures c.if-not-head_good.false-raw and-also said_yes (list_good c.args.image.now true 512 c.own_of-own.result c.own_of-own.ensures c.dots_good.result c.dots_good.ensures) c.if-not-dots_good.false-raw and-also said_yes (list_good c.args.image.now false 1024 c.own_of-own.result c.own_of-own.ensures c.dots_good-2.result c.dots_good-2.ensures) c.if-not-dots_good-2.false-raw and-also said_yes (records_are c.args.image.now c.own_of-own.result c.own_of-own.ensures c.stored_count-count.result c.stored_count-count.ensures c.records_good.result c.records_good.ensures) c.if-not-records_good.false-raw and-also said_yes (ascend_are c.args.image.now c.stored_count-count.result c.stored_count-count.ensures c.points_ascend.result c.points_ascend.ensures) c.if-not-points_ascend.false-raw and-also passed)
+returns c = apart_is c.args.image.now c.requires.0 (said_yes (ascend_are c.args.image.now c.stored_count-count.result c.stored_count-count.ensures c.points_ascend.result c.points_ascend.ensures) c.if-not-points_ascend.false-raw) c.stored_count-count.result c.dots_apart.result c.stored_count-count.ensures c.dots_apart.ensures ∙ good_last c.args.image.now c.requires.0 (said_yes c.head_good.ensures c.if-not-head_good.false-raw and_also said_yes (list_good c.args.image.now true 512 c.own_of-own.result c.own_of-own.ensures c.dots_good.result c.dots_good.ensures) c.if-not-dots_good.false-raw and_also said_yes (list_good c.args.image.now false 1024 c.own_of-own.result c.own_of-own.ensures c.dots_good-2.result c.dots_good-2.ensures) c.if-not-dots_good-2.false-raw and_also said_yes (records_are c.args.image.now c.own_of-own.result c.own_of-own.ensures c.stored_count-count.result c.stored_count-count.ensures c.records_good.result c.records_good.ensures) c.if-not-records_good.false-raw and_also said_yes (ascend_are c.args.image.now c.stored_count-count.result c.stored_count-count.ensures c.points_ascend.result c.points_ascend.ensures) c.if-not-points_ascend.false-raw and_also passed)

@@ -16,6 +16,7 @@ use Rattle.object.proofs.Counting.{Counted, none_counted, counted_more, counted_
 use Rattle.merging.proofs.Carrying.{lasts, lasts_is}
 use native.Mathlib.Omega.{arith}
 use Rattle.merging.proofs.surviving.Goals as goal
+use Rattle.merging.proofs.surviving.Goals.{then-survives, else-survives}
 
 pub loop-i-init : goal.loop-i-init
 loop-i-init c = let a = c.args in
@@ -36,7 +37,9 @@ pub loop-i-preserved : goal.loop-i-preserved
 loop-i-preserved c = let a = c.args in
     let l = c.loop-i in
     let said = lasts_is a.m.now a.there.now (version_at a.b.now l.i) c.version_dot.ensures c.survives.ensures in
-    ⊎_elim (λ w. counted_more l.invariant (omega (arith, c.version_count-count.ensures)) (said ∙ w.0.taken) w.1) (λ w. counted_past l.invariant (omega (arith, c.version_count-count.ensures)) (said ∙ w.0.left) w.1) c.if-survives.branch
+    elim c.if-survives.branch
+    [ then-survives w ↦ counted_more l.invariant (omega (arith, c.version_count-count.ensures)) (said ∙ w.if-survives.true) w.stay-is
+    | else-survives w ↦ counted_past l.invariant (omega (arith, c.version_count-count.ensures)) (said ∙ w.if-survives.false) w.stay-is ]
 
 pub returns : goal.returns
 returns c = let a = c.args in

@@ -17,6 +17,7 @@ use Rattle.record.proofs.Reading.{version_at, versions_are}
 use Rattle.record.proofs.Questions.{crewed_at}
 use Rattle.object.proofs.Counting.{Counted, none_counted, counted_more, counted_past, counted_all, stays}
 use Rattle.object.proofs.staying.Goals as goal
+use Rattle.object.proofs.staying.Goals.{then-not-given_covers, else-not-given_covers}
 
 pub loop-i-init : goal.loop-i-init
 loop-i-init c = let a = c.args in none_counted (stays a.context.now) (field a.b.now 5 1) (version_at a.b.now)
@@ -35,8 +36,9 @@ overflow_add-stay c = omega (arith, c.loop-i.invariant.few)
 pub loop-i-preserved : goal.loop-i-preserved
 loop-i-preserved c = let a = c.args in
     let said = ap not (sym (c.given_covers.ensures ∙ ap (covers (map counter a.context.now)) c.version_dot.ensures)) in
-    ⊎_elim (λ w. counted_more c.loop-i.invariant (omega (arith, c.version_count-count.ensures)) (said ∙ w.0.taken) w.1)
-    (λ w. counted_past c.loop-i.invariant (omega (arith, c.version_count-count.ensures)) (said ∙ w.0.left) w.1) c.if-not-given_covers.branch
+    elim c.if-not-given_covers.branch
+    [ then-not-given_covers w ↦ counted_more c.loop-i.invariant (omega (arith, c.version_count-count.ensures)) (said ∙ w.if-not-given_covers.true-raw) w.stay-is
+    | else-not-given_covers w ↦ counted_past c.loop-i.invariant (omega (arith, c.version_count-count.ensures)) (said ∙ w.if-not-given_covers.false-raw) w.stay-is ]
 
 pub returns : goal.returns
 returns c = let a = c.args in

@@ -8,12 +8,9 @@ use Rattle.meaning.specs.Context.{Context, covers, fill_context}
 use Rattle.layout.specs.Clocks.{decode_clock}
 use Rattle.layout.specs.PointBlock.{form_1, decode_point}
 use Rattle.block.proofs.Passing.{Passing, none_passed, one_more, one_fails, all_passed, said_no, said_yes}
-use Rattle.record.proofs.Questions.{crewed_at, all_covered}
+use Rattle.record.proofs.Questions.{crewed_at, filled, all_covered}
 use Rattle.record.proofs.Reading.{version_at}
 use Rattle.record.proofs.covered_filled.Goals as goal
-
-abbrev filled : List ℕ → List ℕ → List ℕ → Context
-filled b table rows = fill_context table (field b 4 1) (decode_clock rows) (decode_point form_1 b).object.context
 
 pub version_count-count-requires : goal.version_count-count-requires
 version_count-count-requires c = omega arith

@@ -8,7 +8,7 @@ use Rattle.meaning.specs.Context.{Context, covers, fill_context}
 use Rattle.layout.specs.Clocks.{decode_clock}
 use Rattle.layout.specs.PointBlock.{form_1, decode_point}
 use Rattle.block.proofs.Passing.{Passing, none_passed, one_more, one_fails, all_passed, said_no, said_yes}
-use Rattle.record.proofs.Questions.{crewed_at, all_covered}
+use Rattle.record.proofs.Questions.{filled}
 use Rattle.record.proofs.Reading.{version_at}
 use Rattle.record.proofs.covered_filled.Given as goal
 

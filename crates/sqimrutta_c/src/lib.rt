@@ -1,0 +1,97 @@
+// The static library that C links: an export for each call of crate sqimrutta, with the same promise.
+#![tactic(auto)]
+
+ghost use Rattle.std.specs.Prelude.{◌≡◌};
+ghost use Rattle.numbers.specs.Words.{if◌then◌else◌};
+ghost use Rattle.refusal.specs.Refusal.{answer_number};
+ghost use Rattle.layout.specs.Image.{good_image};
+ghost use Rattle.opening.specs.CallContracts.{Starts, Reads, Writes, Deletes, TakesIn, Asks, Replies, Repairs, Strips};
+
+// For C: a slice is a pointer and a size_t.
+#[unsafe(no_mangle)]
+pub extern "C" fn sqimrutta_start(image: &mut [u8], number: u8, table: &[u8]) -> u32
+    ensures { Starts answer_number image.old number table.now result image.new }
+{
+    sqimrutta::sqimrutta_start(image, number, table)
+}
+
+#[unsafe(no_mangle)]
+pub extern "C" fn sqimrutta_good(image: &[u8]) -> u32
+    ensures { result ≡ (if good_image image.now then 1 else 0) }
+{
+    sqimrutta::sqimrutta_good(image)
+}
+
+#[unsafe(no_mangle)]
+pub extern "C" fn sqimrutta_read(image: &[u8], job: u8, point: u16, out: &mut [u8]) -> u32
+    ensures { Reads answer_number image.now job point out.old result out.new }
+{
+    sqimrutta::sqimrutta_read(image, job, point, out)
+}
+
+#[unsafe(no_mangle)]
+pub extern "C" fn sqimrutta_write(
+    image: &mut [u8],
+    job: u8,
+    point: u16,
+    value: &[u8],
+    context: &[u32],
+    out: &mut [u8],
+) -> u32
+    ensures { Writes answer_number image.old job point value.now context.now out.old result image.new out.new }
+{
+    sqimrutta::sqimrutta_write(image, job, point, value, context, out)
+}
+
+#[unsafe(no_mangle)]
+pub extern "C" fn sqimrutta_delete(
+    image: &mut [u8],
+    job: u8,
+    point: u16,
+    context: &[u32],
+    out: &mut [u8],
+) -> u32
+    ensures { Deletes answer_number image.old job point context.now out.old result image.new out.new }
+{
+    sqimrutta::sqimrutta_delete(image, job, point, context, out)
+}
+
+#[unsafe(no_mangle)]
+pub extern "C" fn sqimrutta_take_in(image: &mut [u8], message: &[u8]) -> u32
+    ensures { TakesIn answer_number image.old message.now result image.new }
+{
+    sqimrutta::sqimrutta_take_in(image, message)
+}
+
+#[unsafe(no_mangle)]
+pub extern "C" fn sqimrutta_ask(image: &[u8], to: u8, out: &mut [u8]) -> u32
+    ensures { Asks answer_number image.now to out.old result out.new }
+{
+    sqimrutta::sqimrutta_ask(image, to, out)
+}
+
+#[unsafe(no_mangle)]
+pub extern "C" fn sqimrutta_reply(
+    image: &[u8],
+    message: &[u8],
+    out: &mut [u8],
+    count: &mut u32,
+) -> u32
+    ensures { Replies answer_number image.now message.now out.old result out.new count.new }
+{
+    sqimrutta::sqimrutta_reply(image, message, out, count)
+}
+
+#[unsafe(no_mangle)]
+pub extern "C" fn sqimrutta_repair(image: &mut [u8], message: &[u8]) -> u32
+    ensures { Repairs answer_number image.old message.now result image.new }
+{
+    sqimrutta::sqimrutta_repair(image, message)
+}
+
+#[unsafe(no_mangle)]
+pub extern "C" fn sqimrutta_strip_pass(image: &mut [u8], count: &mut u32) -> u32
+    ensures { Strips answer_number image.old result image.new count.new }
+{
+    sqimrutta::sqimrutta_strip_pass(image, count)
+}
