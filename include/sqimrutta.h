@@ -5,7 +5,7 @@
  * only `memset` and `memcpy` of a C library. A pointer must be valid for the length that goes with it, also where that length is wrong; two buffers
  * of one call must not overlap.
  *
- * Link with libsqimrutta.a, which `rt staticlib sqimrutta` writes to target/staticlib. */
+ * Link with libsqimrutta.a, which `tools/library` writes to target/staticlib. */
 
 #ifndef SQIMRUTTA_H
 #define SQIMRUTTA_H
