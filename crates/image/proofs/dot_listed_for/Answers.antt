@@ -4,10 +4,10 @@ use borrow.Author.Rules.{rules}
 use Rattle.image.proofs.dot_listed_for.Goals as goal
 
 pub entry_key-there-requires : goal.entry_key-there-requires
-entry_key-there-requires c = (omega arith, found_within c.args.list.now c.requires.1 c.args.d c.args.k c.find_dot.result c.i-1.given.0.0 c.i-1.given.1 c.find_dot.ensures)
+entry_key-there-requires c = (omega arith, found_within c.args.list.now c.requires.1 c.args.d c.args.k c.find_dot.result c.in-At.i c.in-At.is c.find_dot.ensures)
 
 pub returns-in-At : goal.returns-in-At
-returns-in-At c = found_there c.args.list.now c.requires.1 c.args.d c.args.k c.find_dot.result c.i-1.given.0.0 c.entry_key-there.result c.same.result c.requires.2 c.i-1.given.1 c.find_dot.ensures c.entry_key-there.ensures c.same.ensures
+returns-in-At c = found_there c.args.list.now c.requires.1 c.args.d c.args.k c.find_dot.result c.in-At.i c.entry_key-there.result c.same.result c.requires.2 c.in-At.is c.find_dot.ensures c.entry_key-there.ensures c.same.ensures
 
 pub returns-in-Before : goal.returns-in-Before
-returns-in-Before c = found_none c.args.list.now c.requires.1 c.args.d c.args.k c.find_dot.result c.enum_told-1.given.0.0 c.enum_told-1.given.1 c.find_dot.ensures
+returns-in-Before c = found_none c.args.list.now c.requires.1 c.args.d c.args.k c.find_dot.result c.in-Before.field-0 c.in-Before.is c.find_dot.ensures

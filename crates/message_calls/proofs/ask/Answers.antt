@@ -10,10 +10,10 @@ use borrow.Author.Rules.{rules}
 use Rattle.message_calls.proofs.ask.Goals as goal
 
 pub ask_at-requires : goal.ask_at-requires
-ask_at-requires c = ((what_is_opened c.args.image.now (one_block c.args.out.now) (sym c.opens.ensures ∙ c.enum_told-1.given.1)).size, (what_is_opened c.args.image.now (one_block c.args.out.now) (sym c.opens.ensures ∙ c.enum_told-1.given.1)).good, eqb-true (length c.args.out.now) 512 (what_is_opened c.args.image.now (one_block c.args.out.now) (sym c.opens.ensures ∙ c.enum_told-1.given.1)).right)
+ask_at-requires c = ((what_is_opened c.args.image.now (one_block c.args.out.now) (sym c.opens.ensures ∙ c.in-Accepted.is)).size, (what_is_opened c.args.image.now (one_block c.args.out.now) (sym c.opens.ensures ∙ c.in-Accepted.is)).good, eqb-true (length c.args.out.now) 512 (what_is_opened c.args.image.now (one_block c.args.out.now) (sym c.opens.ensures ∙ c.in-Accepted.is)).right)
 
 pub returns-in-Refused : goal.returns-in-Refused
-returns-in-Refused c = let e = ask_refused c.args.image.now c.args.to c.args.out.now c.r-1.given.0.0 (sym c.opens.ensures ∙ c.r-1.given.1) in (sym (ap (λ (a : After). a.verdict) e), sym (ap (λ (a : After). a.out) e))
+returns-in-Refused c = let e = ask_refused c.args.image.now c.args.to c.args.out.now c.in-Refused.r (sym c.opens.ensures ∙ c.in-Refused.is) in (sym (ap (λ (a : After). a.verdict) e), sym (ap (λ (a : After). a.out) e))
 
 pub returns-in-Accepted : goal.returns-in-Accepted
-returns-in-Accepted c = let e = ask_goes_on c.args.image.now c.args.to c.args.out.now (sym c.opens.ensures ∙ c.enum_told-1.given.1) in (c.ask_at.ensures.0 ∙ sym (ap (λ (a : After). a.verdict) e), c.ask_at.ensures.1 ∙ sym (ap (λ (a : After). a.out) e))
+returns-in-Accepted c = let e = ask_goes_on c.args.image.now c.args.to c.args.out.now (sym c.opens.ensures ∙ c.in-Accepted.is) in (c.ask_at.ensures.0 ∙ sym (ap (λ (a : After). a.verdict) e), c.ask_at.ensures.1 ∙ sym (ap (λ (a : After). a.out) e))

@@ -10,10 +10,10 @@ use Rattle.message_calls.proofs.Repairing.{repair_refused, repair_goes_on}
 use Rattle.message_calls.proofs.repair.Goals as goal
 
 pub repair_read-requires : goal.repair_read-requires
-repair_read-requires c = ((what_is_opened c.args.image.now (whole_reply c.args.message.now) (sym (c.opens.ensures ∙ ap (λ (b : Bool). verdict_of (opened c.args.image.now b)) c.is_whole.ensures) ∙ c.enum_told-1.given.1)).size, (what_is_opened c.args.image.now (whole_reply c.args.message.now) (sym (c.opens.ensures ∙ ap (λ (b : Bool). verdict_of (opened c.args.image.now b)) c.is_whole.ensures) ∙ c.enum_told-1.given.1)).good, (what_is_opened c.args.image.now (whole_reply c.args.message.now) (sym (c.opens.ensures ∙ ap (λ (b : Bool). verdict_of (opened c.args.image.now b)) c.is_whole.ensures) ∙ c.enum_told-1.given.1)).right)
+repair_read-requires c = ((what_is_opened c.args.image.now (whole_reply c.args.message.now) (sym (c.opens.ensures ∙ ap (λ (b : Bool). verdict_of (opened c.args.image.now b)) c.is_whole.ensures) ∙ c.in-Accepted.is)).size, (what_is_opened c.args.image.now (whole_reply c.args.message.now) (sym (c.opens.ensures ∙ ap (λ (b : Bool). verdict_of (opened c.args.image.now b)) c.is_whole.ensures) ∙ c.in-Accepted.is)).good, (what_is_opened c.args.image.now (whole_reply c.args.message.now) (sym (c.opens.ensures ∙ ap (λ (b : Bool). verdict_of (opened c.args.image.now b)) c.is_whole.ensures) ∙ c.in-Accepted.is)).right)
 
 pub returns-in-Refused : goal.returns-in-Refused
-returns-in-Refused c = let e = repair_refused c.args.image.now c.args.message.now c.r-1.given.0.0 (sym (c.opens.ensures ∙ ap (λ (b : Bool). verdict_of (opened c.args.image.now b)) c.is_whole.ensures) ∙ c.r-1.given.1) in (sym (ap (λ (a : After). a.verdict) e), sym (ap (λ (a : After). a.image) e))
+returns-in-Refused c = let e = repair_refused c.args.image.now c.args.message.now c.in-Refused.r (sym (c.opens.ensures ∙ ap (λ (b : Bool). verdict_of (opened c.args.image.now b)) c.is_whole.ensures) ∙ c.in-Refused.is) in (sym (ap (λ (a : After). a.verdict) e), sym (ap (λ (a : After). a.image) e))
 
 pub returns-in-Accepted : goal.returns-in-Accepted
-returns-in-Accepted c = let e = repair_goes_on c.args.image.now c.args.message.now (sym (c.opens.ensures ∙ ap (λ (b : Bool). verdict_of (opened c.args.image.now b)) c.is_whole.ensures) ∙ c.enum_told-1.given.1) in (c.repair_read.ensures.0 ∙ sym (ap (λ (a : After). a.verdict) e), c.repair_read.ensures.1 ∙ sym (ap (λ (a : After). a.image) e))
+returns-in-Accepted c = let e = repair_goes_on c.args.image.now c.args.message.now (sym (c.opens.ensures ∙ ap (λ (b : Bool). verdict_of (opened c.args.image.now b)) c.is_whole.ensures) ∙ c.in-Accepted.is) in (c.repair_read.ensures.0 ∙ sym (ap (λ (a : After). a.verdict) e), c.repair_read.ensures.1 ∙ sym (ap (λ (a : After). a.image) e))

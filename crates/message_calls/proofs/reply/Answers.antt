@@ -12,16 +12,16 @@ use Rattle.message_calls.proofs.Replying.{reply_lengths, reply_refused, block_le
 use Rattle.message_calls.proofs.reply.Goals as goal
 
 pub judge_ask-requires : goal.judge_ask-requires
-judge_ask-requires c = ((what_is_opened c.args.image.now (reply_lengths c.args.message.now c.args.out.now) (sym (c.opens.ensures ∙ ap (λ (b : Bool). verdict_of (opened c.args.image.now b)) c.reply_lengths.ensures) ∙ c.enum_told-1.given.1)).size, (what_is_opened c.args.image.now (reply_lengths c.args.message.now c.args.out.now) (sym (c.opens.ensures ∙ ap (λ (b : Bool). verdict_of (opened c.args.image.now b)) c.reply_lengths.ensures) ∙ c.enum_told-1.given.1)).good, block_lent c.args.image.now c.args.message.now c.args.out.now (sym (c.opens.ensures ∙ ap (λ (b : Bool). verdict_of (opened c.args.image.now b)) c.reply_lengths.ensures) ∙ c.enum_told-1.given.1))
+judge_ask-requires c = ((what_is_opened c.args.image.now (reply_lengths c.args.message.now c.args.out.now) (sym (c.opens.ensures ∙ ap (λ (b : Bool). verdict_of (opened c.args.image.now b)) c.reply_lengths.ensures) ∙ c.in-Accepted.is)).size, (what_is_opened c.args.image.now (reply_lengths c.args.message.now c.args.out.now) (sym (c.opens.ensures ∙ ap (λ (b : Bool). verdict_of (opened c.args.image.now b)) c.reply_lengths.ensures) ∙ c.in-Accepted.is)).good, block_lent c.args.image.now c.args.message.now c.args.out.now (sym (c.opens.ensures ∙ ap (λ (b : Bool). verdict_of (opened c.args.image.now b)) c.reply_lengths.ensures) ∙ c.in-Accepted.is))
 
 pub write_reply-sent-requires : goal.write_reply-sent-requires
-write_reply-sent-requires c = ((what_is_opened c.args.image.now (reply_lengths c.args.message.now c.args.out.now) (sym (c.opens.ensures ∙ ap (λ (b : Bool). verdict_of (opened c.args.image.now b)) c.reply_lengths.ensures) ∙ c.enum_told-1.given.1)).size, (what_is_opened c.args.image.now (reply_lengths c.args.message.now c.args.out.now) (sym (c.opens.ensures ∙ ap (λ (b : Bool). verdict_of (opened c.args.image.now b)) c.reply_lengths.ensures) ∙ c.enum_told-1.given.1)).good, block_lent c.args.image.now c.args.message.now c.args.out.now (sym (c.opens.ensures ∙ ap (λ (b : Bool). verdict_of (opened c.args.image.now b)) c.reply_lengths.ensures) ∙ c.enum_told-1.given.1), judged_asker c.args.message.now (decode c.args.image.now) (sym c.judge_ask.ensures ∙ c.enum_told-in-Accepted-judge_ask-1.given.1), room_lent c.args.image.now c.args.message.now c.args.out.now (sym (c.opens.ensures ∙ ap (λ (b : Bool). verdict_of (opened c.args.image.now b)) c.reply_lengths.ensures) ∙ c.enum_told-1.given.1))
+write_reply-sent-requires c = ((what_is_opened c.args.image.now (reply_lengths c.args.message.now c.args.out.now) (sym (c.opens.ensures ∙ ap (λ (b : Bool). verdict_of (opened c.args.image.now b)) c.reply_lengths.ensures) ∙ c.in-Accepted.is)).size, (what_is_opened c.args.image.now (reply_lengths c.args.message.now c.args.out.now) (sym (c.opens.ensures ∙ ap (λ (b : Bool). verdict_of (opened c.args.image.now b)) c.reply_lengths.ensures) ∙ c.in-Accepted.is)).good, block_lent c.args.image.now c.args.message.now c.args.out.now (sym (c.opens.ensures ∙ ap (λ (b : Bool). verdict_of (opened c.args.image.now b)) c.reply_lengths.ensures) ∙ c.in-Accepted.is), judged_asker c.args.message.now (decode c.args.image.now) (sym c.judge_ask.ensures ∙ c.in-Accepted-judge_ask.is), room_lent c.args.image.now c.args.message.now c.args.out.now (sym (c.opens.ensures ∙ ap (λ (b : Bool). verdict_of (opened c.args.image.now b)) c.reply_lengths.ensures) ∙ c.in-Accepted.is))
 
 pub returns-in-Refused : goal.returns-in-Refused
-returns-in-Refused c = let e = reply_refused c.args.image.now c.args.message.now c.args.out.now c.r-1.given.0.0 (sym (c.opens.ensures ∙ ap (λ (b : Bool). verdict_of (opened c.args.image.now b)) c.reply_lengths.ensures) ∙ c.r-1.given.1) in (sym (ap (λ (a : After). a.verdict) e), sym (ap (λ (a : After). a.out) e), sym (ap (λ (a : After). a.count) e))
+returns-in-Refused c = let e = reply_refused c.args.image.now c.args.message.now c.args.out.now c.in-Refused.r (sym (c.opens.ensures ∙ ap (λ (b : Bool). verdict_of (opened c.args.image.now b)) c.reply_lengths.ensures) ∙ c.in-Refused.is) in (sym (ap (λ (a : After). a.verdict) e), sym (ap (λ (a : After). a.out) e), sym (ap (λ (a : After). a.count) e))
 
 pub returns-in-Refused-judge_ask : goal.returns-in-Refused-judge_ask
-returns-in-Refused-judge_ask c = let e = reply_judged_off c.args.image.now c.args.message.now c.args.out.now (sym (c.opens.ensures ∙ ap (λ (b : Bool). verdict_of (opened c.args.image.now b)) c.reply_lengths.ensures) ∙ c.enum_told-1.given.1) c.q-1.given.0.0 (sym c.judge_ask.ensures ∙ c.q-1.given.1) in (sym (ap (λ (a : After). a.verdict) e), sym (ap (λ (a : After). a.out) e), sym (ap (λ (a : After). a.count) e))
+returns-in-Refused-judge_ask c = let e = reply_judged_off c.args.image.now c.args.message.now c.args.out.now (sym (c.opens.ensures ∙ ap (λ (b : Bool). verdict_of (opened c.args.image.now b)) c.reply_lengths.ensures) ∙ c.in-Accepted.is) c.in-Refused-judge_ask.q (sym c.judge_ask.ensures ∙ c.in-Refused-judge_ask.is) in (sym (ap (λ (a : After). a.verdict) e), sym (ap (λ (a : After). a.out) e), sym (ap (λ (a : After). a.count) e))
 
 pub returns-in-Accepted-judge_ask : goal.returns-in-Accepted-judge_ask
-returns-in-Accepted-judge_ask c = let e = reply_sent c.args.image.now c.args.message.now c.args.out.now (sym (c.opens.ensures ∙ ap (λ (b : Bool). verdict_of (opened c.args.image.now b)) c.reply_lengths.ensures) ∙ c.enum_told-1.given.1) (sym c.judge_ask.ensures ∙ c.enum_told-in-Accepted-judge_ask-1.given.1) in (sym (ap (λ (a : After). a.verdict) e), c.write_reply-sent.ensures.1 ∙ sym (ap (λ (a : After). a.out) e), c.write_reply-sent.ensures.0 ∙ sym (ap (λ (a : After). a.count) e))
+returns-in-Accepted-judge_ask c = let e = reply_sent c.args.image.now c.args.message.now c.args.out.now (sym (c.opens.ensures ∙ ap (λ (b : Bool). verdict_of (opened c.args.image.now b)) c.reply_lengths.ensures) ∙ c.in-Accepted.is) (sym c.judge_ask.ensures ∙ c.in-Accepted-judge_ask.is) in (sym (ap (λ (a : After). a.verdict) e), c.write_reply-sent.ensures.1 ∙ sym (ap (λ (a : After). a.out) e), c.write_reply-sent.ensures.0 ∙ sym (ap (λ (a : After). a.count) e))

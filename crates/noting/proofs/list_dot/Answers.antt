@@ -17,10 +17,10 @@ pub find_dot-requires : goal.find_dot-requires
 find_dot-requires c = (search rules, foreign_few c.args.image.now (bytes_of c.args.image.now c.slice_known-1.given) c.requires.0 c.requires.1, ap (ascends? listed_before) (foreign_list c.args.image.now (bytes_of c.args.image.now c.slice_known-1.given) c.requires.0 c.requires.1) ∙ c.requires.2)
 
 pub insert_dot-requires : goal.insert_dot-requires
-insert_dot-requires c = (c.requires.0, c.requires.1, omega arith, omega arith, (found_in _ (decode c.args.image.now).foreign_dots c.args.d (foreign_list c.args.image.now (bytes_of c.args.image.now c.slice_known-1.given) c.requires.0 c.requires.1) c.find_dot.result c.find_dot.ensures (Before c.i-1.given.0.0) c.i-1.given.1).0, c.requires.3)
+insert_dot-requires c = (c.requires.0, c.requires.1, omega arith, omega arith, (found_in _ (decode c.args.image.now).foreign_dots c.args.d (foreign_list c.args.image.now (bytes_of c.args.image.now c.slice_known-1.given) c.requires.0 c.requires.1) c.find_dot.result c.find_dot.ensures (Before c.in-Before.i) c.in-Before.is).0, c.requires.3)
 
 pub returns-in-At : goal.returns-in-At
-returns-in-At c = not_found c.args.d (decode c.args.image.now).foreign_dots c.enum_told-1.given.0.0 c.requires.4 (found_in _ (decode c.args.image.now).foreign_dots c.args.d (foreign_list c.args.image.now (bytes_of c.args.image.now c.slice_known-1.given) c.requires.0 c.requires.1) c.find_dot.result c.find_dot.ensures (At c.enum_told-1.given.0.0) c.enum_told-1.given.1)
+returns-in-At c = not_found c.args.d (decode c.args.image.now).foreign_dots c.in-At.field-0 c.requires.4 (found_in _ (decode c.args.image.now).foreign_dots c.args.d (foreign_list c.args.image.now (bytes_of c.args.image.now c.slice_known-1.given) c.requires.0 c.requires.1) c.find_dot.result c.find_dot.ensures (At c.in-At.field-0) c.in-At.is)
 
 pub returns-in-Before : goal.returns-in-Before
-returns-in-Before c = (c.insert_dot.ensures.0 ∙ ap (with_list (decode c.args.image.now) 2) (sym (place_listed (record { dot = c.args.d; key = c.args.k }) (decode c.args.image.now).foreign_dots c.i-1.given.0.0 (found_in _ (decode c.args.image.now).foreign_dots c.args.d (foreign_list c.args.image.now (bytes_of c.args.image.now c.slice_known-1.given) c.requires.0 c.requires.1) c.find_dot.result c.find_dot.ensures (Before c.i-1.given.0.0) c.i-1.given.1))), c.insert_dot.ensures.1)
+returns-in-Before c = (c.insert_dot.ensures.0 ∙ ap (with_list (decode c.args.image.now) 2) (sym (place_listed (record { dot = c.args.d; key = c.args.k }) (decode c.args.image.now).foreign_dots c.in-Before.i (found_in _ (decode c.args.image.now).foreign_dots c.args.d (foreign_list c.args.image.now (bytes_of c.args.image.now c.slice_known-1.given) c.requires.0 c.requires.1) c.find_dot.result c.find_dot.ensures (Before c.in-Before.i) c.in-Before.is))), c.insert_dot.ensures.1)

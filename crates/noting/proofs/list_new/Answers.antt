@@ -20,13 +20,13 @@ pub shape_of-image-in-Nothing : goal.shape_of-image-in-Nothing
 shape_of-image-in-Nothing c = c.loop-listed.invariant.size ∙ sym c.requires.0
 
 pub returns-in-Nothing : goal.returns-in-Nothing
-returns-in-Nothing c = (ends (decode c.args.image.now) (good_now c.args.image.now c.requires.1) (points_in c.args.points.now) c.loop-listed.last c.loop-listed.listed c.loop-listed.image c.loop-listed.invariant c.next_new.result c.next_new.ensures c.enum_told-1.given.1, c.loop-listed.invariant.canonical)
+returns-in-Nothing c = (ends (decode c.args.image.now) (good_now c.args.image.now c.requires.1) (points_in c.args.points.now) c.loop-listed.last c.loop-listed.listed c.loop-listed.image c.loop-listed.invariant c.next_new.result c.next_new.ensures c.in-Nothing.is, c.loop-listed.invariant.canonical)
 
 pub list_dot-requires : goal.list_dot-requires
-list_dot-requires c = (c.loop-listed.invariant.size, c.loop-listed.invariant.canonical, list_ascends (decode c.args.image.now) (good_now c.args.image.now c.requires.1) (points_in c.args.points.now) c.loop-listed.last c.loop-listed.listed c.loop-listed.image c.loop-listed.invariant c.next_new.result c.next_new.ensures c.d-1.given.0.0 c.d-1.given.0.1.0 c.d-1.given.1, one_fits (decode c.args.image.now) (good_now c.args.image.now c.requires.1) (points_in c.args.points.now) c.loop-listed.last c.loop-listed.listed c.loop-listed.image c.loop-listed.invariant c.next_new.result c.next_new.ensures c.d-1.given.0.0 c.d-1.given.0.1.0 c.d-1.given.1 c.loop-listed-test.true, not_listed (decode c.args.image.now) (good_now c.args.image.now c.requires.1) (points_in c.args.points.now) c.loop-listed.last c.loop-listed.listed c.loop-listed.image c.loop-listed.invariant c.next_new.result c.next_new.ensures c.d-1.given.0.0 c.d-1.given.0.1.0 c.d-1.given.1)
+list_dot-requires c = (c.loop-listed.invariant.size, c.loop-listed.invariant.canonical, list_ascends (decode c.args.image.now) (good_now c.args.image.now c.requires.1) (points_in c.args.points.now) c.loop-listed.last c.loop-listed.listed c.loop-listed.image c.loop-listed.invariant c.next_new.result c.next_new.ensures c.in-At.d c.in-At.k c.in-At.is, one_fits (decode c.args.image.now) (good_now c.args.image.now c.requires.1) (points_in c.args.points.now) c.loop-listed.last c.loop-listed.listed c.loop-listed.image c.loop-listed.invariant c.next_new.result c.next_new.ensures c.in-At.d c.in-At.k c.in-At.is c.loop-listed-test.true, not_listed (decode c.args.image.now) (good_now c.args.image.now c.requires.1) (points_in c.args.points.now) c.loop-listed.last c.loop-listed.listed c.loop-listed.image c.loop-listed.invariant c.next_new.result c.next_new.ensures c.in-At.d c.in-At.k c.in-At.is)
 
 pub loop-listed-preserved : goal.loop-listed-preserved
-loop-listed-preserved c = one_listed (decode c.args.image.now) (good_now c.args.image.now c.requires.1) (points_in c.args.points.now) c.loop-listed.last c.loop-listed.listed c.loop-listed.image c.loop-listed.invariant c.next_new.result c.next_new.ensures c.d-1.given.0.0 c.d-1.given.0.1.0 c.d-1.given.1 c.loop-listed-test.true _ (search rules) c.list_dot.ensures
+loop-listed-preserved c = one_listed (decode c.args.image.now) (good_now c.args.image.now c.requires.1) (points_in c.args.points.now) c.loop-listed.last c.loop-listed.listed c.loop-listed.image c.loop-listed.invariant c.next_new.result c.next_new.ensures c.in-At.d c.in-At.k c.in-At.is c.loop-listed-test.true _ (search rules) c.list_dot.ensures
 
 pub returns : goal.returns
 returns c = (full (decode c.args.image.now) (good_now c.args.image.now c.requires.1) (points_in c.args.points.now) c.loop-listed.last c.loop-listed.listed c.loop-listed.image c.loop-listed.invariant c.loop-listed-test.false, c.loop-listed.invariant.canonical)

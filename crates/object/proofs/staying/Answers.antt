@@ -36,9 +36,10 @@ overflow_add-stay c = omega (arith, c.loop-i.invariant.few)
 pub loop-i-preserved : goal.loop-i-preserved
 loop-i-preserved c = let a = c.args in
     let said = ap not (sym (c.given_covers.ensures ∙ ap (covers (map counter a.context.now)) c.version_dot.ensures)) in
-    elim c.if-not-given_covers.branch
-    [ then-not-given_covers w ↦ counted_more c.loop-i.invariant (omega (arith, c.version_count-count.ensures)) (said ∙ w.if-not-given_covers.true-raw) w.stay-is
-    | else-not-given_covers w ↦ counted_past c.loop-i.invariant (omega (arith, c.version_count-count.ensures)) (said ∙ w.if-not-given_covers.false-raw) w.stay-is ]
+    elim c.if-not-given_covers.branch [
+      | then-not-given_covers w ↦ counted_more c.loop-i.invariant (omega (arith, c.version_count-count.ensures)) (said ∙ w.if-not-given_covers.true-raw) w.stay-is
+      | else-not-given_covers w ↦ counted_past c.loop-i.invariant (omega (arith, c.version_count-count.ensures)) (said ∙ w.if-not-given_covers.false-raw) w.stay-is
+    ]
 
 pub returns : goal.returns
 returns c = let a = c.args in

@@ -11,13 +11,13 @@ use borrow.Author.Rules.{rules}
 use Rattle.own_calls.proofs.strip_pass.Goals as goal
 
 pub slice_bounds-copy_in-end-in-Accepted : goal.slice_bounds-copy_in-end-in-Accepted
-slice_bounds-copy_in-end-in-Accepted c = omega (arith, (what_is_opened c.args.image.now true (sym c.opens.ensures ∙ c.enum_told-1.given.1)).size)
+slice_bounds-copy_in-end-in-Accepted c = omega (arith, (what_is_opened c.args.image.now true (sym c.opens.ensures ∙ c.in-Accepted.is)).size)
 
 pub strip_all-count-requires : goal.strip_all-count-requires
-strip_all-count-requires c = let r = rows_copied c.args.image.now _ _ c.copy_in.ensures (what_is_opened c.args.image.now true (sym c.opens.ensures ∙ c.enum_told-1.given.1)).size (omega arith) in ((what_is_opened c.args.image.now true (sym c.opens.ensures ∙ c.enum_told-1.given.1)).size, (what_is_opened c.args.image.now true (sym c.opens.ensures ∙ c.enum_told-1.given.1)).good, r.0, r.1)
+strip_all-count-requires c = let r = rows_copied c.args.image.now _ _ c.copy_in.ensures (what_is_opened c.args.image.now true (sym c.opens.ensures ∙ c.in-Accepted.is)).size (omega arith) in ((what_is_opened c.args.image.now true (sym c.opens.ensures ∙ c.in-Accepted.is)).size, (what_is_opened c.args.image.now true (sym c.opens.ensures ∙ c.in-Accepted.is)).good, r.0, r.1)
 
 pub returns-in-Refused : goal.returns-in-Refused
-returns-in-Refused c = let e = strip_refused c.args.image.now c.r-1.given.0.0 (sym c.opens.ensures ∙ c.r-1.given.1) in (sym (ap (λ (a : After). a.verdict) e), sym (ap (λ (a : After). a.image) e), sym (ap (λ (a : After). a.count) e))
+returns-in-Refused c = let e = strip_refused c.args.image.now c.in-Refused.r (sym c.opens.ensures ∙ c.in-Refused.is) in (sym (ap (λ (a : After). a.verdict) e), sym (ap (λ (a : After). a.image) e), sym (ap (λ (a : After). a.count) e))
 
 pub returns-in-Accepted : goal.returns-in-Accepted
-returns-in-Accepted c = let e = strip_passed c.args.image.now (sym c.opens.ensures ∙ c.enum_told-1.given.1) in (sym (ap (λ (a : After). a.verdict) e), c.strip_all-count.ensures.1 ∙ sym (ap (λ (a : After). a.image) e), c.strip_all-count.ensures.0 ∙ sym (ap (λ (a : After). a.count) e))
+returns-in-Accepted c = let e = strip_passed c.args.image.now (sym c.opens.ensures ∙ c.in-Accepted.is) in (sym (ap (λ (a : After). a.verdict) e), c.strip_all-count.ensures.1 ∙ sym (ap (λ (a : After). a.image) e), c.strip_all-count.ensures.0 ∙ sym (ap (λ (a : After). a.count) e))

@@ -15,22 +15,22 @@ pub find_point-requires : goal.find_point-requires
 find_point-requires c = (c.requires.0, search_few c.args.image.now (bytes_of c.args.image.now c.type_inv.image) c.requires.0 c.requires.1 c.args.count c.requires.2, search_ascends c.args.image.now (bytes_of c.args.image.now c.type_inv.image) c.requires.0 c.requires.1 c.args.count c.requires.2 c.requires.3)
 
 pub overflow_add-at : goal.overflow_add-at
-overflow_add-at c = omega (arith, c.requires.0, (found_is c.args.image.now (bytes_of c.args.image.now c.type_inv.image) c.requires.0 c.requires.1 c.args.count c.requires.2 c.args.k c.find_point.result c.find_point.ensures (At c.i-1.given.0.0) c.i-1.given.1).0, (image_decoded c.args.image.now (bytes_of c.args.image.now c.type_inv.image) c.requires.0).few)
+overflow_add-at c = omega (arith, c.requires.0, (found_is c.args.image.now (bytes_of c.args.image.now c.type_inv.image) c.requires.0 c.requires.1 c.args.count c.requires.2 c.args.k c.find_point.result c.find_point.ensures (At c.in-At.i) c.in-At.is).0, (image_decoded c.args.image.now (bytes_of c.args.image.now c.type_inv.image) c.requires.0).few)
 
 pub overflow_mul-at : goal.overflow_mul-at
-overflow_mul-at c = omega (arith, c.requires.0, (found_is c.args.image.now (bytes_of c.args.image.now c.type_inv.image) c.requires.0 c.requires.1 c.args.count c.requires.2 c.args.k c.find_point.result c.find_point.ensures (At c.i-1.given.0.0) c.i-1.given.1).0, (image_decoded c.args.image.now (bytes_of c.args.image.now c.type_inv.image) c.requires.0).few)
+overflow_mul-at c = omega (arith, c.requires.0, (found_is c.args.image.now (bytes_of c.args.image.now c.type_inv.image) c.requires.0 c.requires.1 c.args.count c.requires.2 c.args.k c.find_point.result c.find_point.ensures (At c.in-At.i) c.in-At.is).0, (image_decoded c.args.image.now (bytes_of c.args.image.now c.type_inv.image) c.requires.0).few)
 
 pub overflow_add-at-in-At : goal.overflow_add-at-in-At
-overflow_add-at-in-At c = omega (arith, c.requires.0, (found_is c.args.image.now (bytes_of c.args.image.now c.type_inv.image) c.requires.0 c.requires.1 c.args.count c.requires.2 c.args.k c.find_point.result c.find_point.ensures (At c.i-1.given.0.0) c.i-1.given.1).0, (image_decoded c.args.image.now (bytes_of c.args.image.now c.type_inv.image) c.requires.0).few)
+overflow_add-at-in-At c = omega (arith, c.requires.0, (found_is c.args.image.now (bytes_of c.args.image.now c.type_inv.image) c.requires.0 c.requires.1 c.args.count c.requires.2 c.args.k c.find_point.result c.find_point.ensures (At c.in-At.i) c.in-At.is).0, (image_decoded c.args.image.now (bytes_of c.args.image.now c.type_inv.image) c.requires.0).few)
 
 pub overflow_add-at-in-At-2 : goal.overflow_add-at-in-At-2
-overflow_add-at-in-At-2 c = omega (arith, c.requires.0, (found_is c.args.image.now (bytes_of c.args.image.now c.type_inv.image) c.requires.0 c.requires.1 c.args.count c.requires.2 c.args.k c.find_point.result c.find_point.ensures (At c.i-1.given.0.0) c.i-1.given.1).0, (image_decoded c.args.image.now (bytes_of c.args.image.now c.type_inv.image) c.requires.0).few)
+overflow_add-at-in-At-2 c = omega (arith, c.requires.0, (found_is c.args.image.now (bytes_of c.args.image.now c.type_inv.image) c.requires.0 c.requires.1 c.args.count c.requires.2 c.args.k c.find_point.result c.find_point.ensures (At c.in-At.i) c.in-At.is).0, (image_decoded c.args.image.now (bytes_of c.args.image.now c.type_inv.image) c.requires.0).few)
 
 pub slice_bounds-filled_context-end : goal.slice_bounds-filled_context-end
-slice_bounds-filled_context-end c = omega (arith, c.requires.0, (found_is c.args.image.now (bytes_of c.args.image.now c.type_inv.image) c.requires.0 c.requires.1 c.args.count c.requires.2 c.args.k c.find_point.result c.find_point.ensures (At c.i-1.given.0.0) c.i-1.given.1).0, (image_decoded c.args.image.now (bytes_of c.args.image.now c.type_inv.image) c.requires.0).few)
+slice_bounds-filled_context-end c = omega (arith, c.requires.0, (found_is c.args.image.now (bytes_of c.args.image.now c.type_inv.image) c.requires.0 c.requires.1 c.args.count c.requires.2 c.args.k c.find_point.result c.find_point.ensures (At c.in-At.i) c.in-At.is).0, (image_decoded c.args.image.now (bytes_of c.args.image.now c.type_inv.image) c.requires.0).few)
 
 pub returns-in-At : goal.returns-in-At
-returns-in-At c = (local_is c.args.image.now c.requires.0 c.args.k _ (found_context c.args.image.now (bytes_of c.args.image.now c.type_inv.image) c.requires.0 c.requires.1 c.requires.3 c.args.k c.i-1.given.0.0 (found_is c.args.image.now (bytes_of c.args.image.now c.type_inv.image) c.requires.0 c.requires.1 c.args.count c.requires.2 c.args.k c.find_point.result c.find_point.ensures (At c.i-1.given.0.0) c.i-1.given.1)) _ c.filled_context.ensures.0, c.filled_context.ensures.1)
+returns-in-At c = (local_is c.args.image.now c.requires.0 c.args.k _ (found_context c.args.image.now (bytes_of c.args.image.now c.type_inv.image) c.requires.0 c.requires.1 c.requires.3 c.args.k c.in-At.i (found_is c.args.image.now (bytes_of c.args.image.now c.type_inv.image) c.requires.0 c.requires.1 c.args.count c.requires.2 c.args.k c.find_point.result c.find_point.ensures (At c.in-At.i) c.in-At.is)) _ c.filled_context.ensures.0, c.filled_context.ensures.1)
 
 pub returns-in-Before : goal.returns-in-Before
-returns-in-Before c = (local_is c.args.image.now c.requires.0 c.args.k _ (no_entries c.args.image.now c.args.k (record_none c.args.k (decode c.args.image.now).points c.enum_told-1.given.0.0 (found_is c.args.image.now (bytes_of c.args.image.now c.type_inv.image) c.requires.0 c.requires.1 c.args.count c.requires.2 c.args.k c.find_point.result c.find_point.ensures (Before c.enum_told-1.given.0.0) c.enum_told-1.given.1))) _ c.filled_context-in-Before.ensures.0, c.filled_context-in-Before.ensures.1)
+returns-in-Before c = (local_is c.args.image.now c.requires.0 c.args.k _ (no_entries c.args.image.now c.args.k (record_none c.args.k (decode c.args.image.now).points c.in-Before.field-0 (found_is c.args.image.now (bytes_of c.args.image.now c.type_inv.image) c.requires.0 c.requires.1 c.args.count c.requires.2 c.args.k c.find_point.result c.find_point.ensures (Before c.in-Before.field-0) c.in-Before.is))) _ c.filled_context-in-Before.ensures.0, c.filled_context-in-Before.ensures.1)

@@ -25,7 +25,7 @@ pub goes_alone-requires : goal.goes_alone-requires
 goes_alone-requires c = (c.requires.3.0, few_sent c.args.m.now (bytes_of c.args.m.now c.type_inv.m) c.requires.3.0 c.requires.3.1, by_crew (decode c.args.image.now) (good_now c.args.image.now c.requires.1) (key_in c.args.m.now) (theirs c.args.m.now c.args.there.now) c.requires.3.5, c.requires.3.2, c.requires.3.4, c.requires.4)
 
 pub returns-in-At : goal.returns-in-At
-returns-in-At c = has_its_place c.args.image.now (bytes_of c.args.image.now c.type_inv.image) c.requires.0 c.requires.1 c.args.m.now c.args.here.now c.args.there.now (bytes_of c.args.m.now c.type_inv.m) c.requires.3 c.enum_told-1.given.0.0 (found_is c.args.image.now (bytes_of c.args.image.now c.type_inv.image) c.requires.0 (good_canonical c.args.image.now c.requires.1) c.args.count c.requires.2 (key_in c.args.m.now) c.find_point.result (subst (λ (x : Key). PointIn (upto c.args.count (point_at c.args.image.now)) x c.find_point.result) c.key_of.ensures c.find_point.ensures) (At c.enum_told-1.given.0.0) c.enum_told-1.given.1) (decode_clock c.args.rows.now)
+returns-in-At c = has_its_place c.args.image.now (bytes_of c.args.image.now c.type_inv.image) c.requires.0 c.requires.1 c.args.m.now c.args.here.now c.args.there.now (bytes_of c.args.m.now c.type_inv.m) c.requires.3 c.in-At.field-0 (found_is c.args.image.now (bytes_of c.args.image.now c.type_inv.image) c.requires.0 (good_canonical c.args.image.now c.requires.1) c.args.count c.requires.2 (key_in c.args.m.now) c.find_point.result (subst (λ (x : Key). PointIn (upto c.args.count (point_at c.args.image.now)) x c.find_point.result) c.key_of.ensures c.find_point.ensures) (At c.in-At.field-0) c.in-At.is) (decode_clock c.args.rows.now)
 
 pub returns-in-Before : goal.returns-in-Before
-returns-in-Before c = place_asked c.args.image.now (bytes_of c.args.image.now c.type_inv.image) c.requires.0 c.requires.1 c.args.m.now c.args.here.now c.args.there.now (bytes_of c.args.m.now c.type_inv.m) c.requires.3 c.enum_told-in-Before-1.given.0.0 (found_is c.args.image.now (bytes_of c.args.image.now c.type_inv.image) c.requires.0 (good_canonical c.args.image.now c.requires.1) c.args.count c.requires.2 (key_in c.args.m.now) c.find_point.result (subst (λ (x : Key). PointIn (upto c.args.count (point_at c.args.image.now)) x c.find_point.result) c.key_of.ensures c.find_point.ensures) (Before c.enum_told-in-Before-1.given.0.0) c.enum_told-in-Before-1.given.1) (decode_clock c.args.rows.now) c.goes_alone.result c.goes_alone.ensures
+returns-in-Before c = place_asked c.args.image.now (bytes_of c.args.image.now c.type_inv.image) c.requires.0 c.requires.1 c.args.m.now c.args.here.now c.args.there.now (bytes_of c.args.m.now c.type_inv.m) c.requires.3 c.in-Before.field-0 (found_is c.args.image.now (bytes_of c.args.image.now c.type_inv.image) c.requires.0 (good_canonical c.args.image.now c.requires.1) c.args.count c.requires.2 (key_in c.args.m.now) c.find_point.result (subst (λ (x : Key). PointIn (upto c.args.count (point_at c.args.image.now)) x c.find_point.result) c.key_of.ensures c.find_point.ensures) (Before c.in-Before.field-0) c.in-Before.is) (decode_clock c.args.rows.now) c.goes_alone.result c.goes_alone.ensures

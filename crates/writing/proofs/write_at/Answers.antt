@@ -15,10 +15,10 @@ pub returns-then-said-gt24 : goal.returns-then-said-gt24
 returns-then-said-gt24 c = let e = write_long (decode c.args.image.now) (good_now c.args.image.now c.requires.1) c.args.k (map counter c.args.context.now) c.requires.2 c.args.image.now c.args.out.now c.args.said.now c.if-said-gt24.true in (sym (ap (λ (a : After). a.verdict) e), sym (ap (λ (a : After). a.image) e), sym (ap (λ (a : After). a.out) e))
 
 pub put_value-requires : goal.put_value-requires
-put_value-requires c = (c.requires.0, c.requires.1, c.requires.2, omega (arith, c.if-said-gt24.false), c.requires.3, (sym c.judge.ensures ∙ c.enum_told-1.given.1), c.requires.4)
+put_value-requires c = (c.requires.0, c.requires.1, c.requires.2, omega (arith, c.if-said-gt24.false), c.requires.3, (sym c.judge.ensures ∙ c.in-Accepted.is), c.requires.4)
 
 pub returns-in-Refused : goal.returns-in-Refused
-returns-in-Refused c = let e = write_refused (decode c.args.image.now) (good_now c.args.image.now c.requires.1) c.args.k (map counter c.args.context.now) c.requires.2 c.args.image.now c.args.out.now c.args.said.now (omega (arith, c.if-said-gt24.false)) c.r-1.given.0.0 (sym c.judge.ensures ∙ c.r-1.given.1) in (sym (ap (λ (a : After). a.verdict) e), sym (ap (λ (a : After). a.image) e), sym (ap (λ (a : After). a.out) e))
+returns-in-Refused c = let e = write_refused (decode c.args.image.now) (good_now c.args.image.now c.requires.1) c.args.k (map counter c.args.context.now) c.requires.2 c.args.image.now c.args.out.now c.args.said.now (omega (arith, c.if-said-gt24.false)) c.in-Refused.r (sym c.judge.ensures ∙ c.in-Refused.is) in (sym (ap (λ (a : After). a.verdict) e), sym (ap (λ (a : After). a.image) e), sym (ap (λ (a : After). a.out) e))
 
 pub returns-in-Accepted : goal.returns-in-Accepted
-returns-in-Accepted c = let e = write_made (decode c.args.image.now) (good_now c.args.image.now c.requires.1) c.args.k (map counter c.args.context.now) c.requires.2 c.args.image.now c.args.out.now c.args.said.now (omega (arith, c.if-said-gt24.false)) (sym c.judge.ensures ∙ c.enum_told-1.given.1) in (sym (ap (λ (a : After). a.verdict) e), c.put_value.ensures.0 ∙ sym (ap (λ (a : After). a.image) e), c.put_value.ensures.1 ∙ sym (ap (λ (a : After). a.out) e))
+returns-in-Accepted c = let e = write_made (decode c.args.image.now) (good_now c.args.image.now c.requires.1) c.args.k (map counter c.args.context.now) c.requires.2 c.args.image.now c.args.out.now c.args.said.now (omega (arith, c.if-said-gt24.false)) (sym c.judge.ensures ∙ c.in-Accepted.is) in (sym (ap (λ (a : After). a.verdict) e), c.put_value.ensures.0 ∙ sym (ap (λ (a : After). a.image) e), c.put_value.ensures.1 ∙ sym (ap (λ (a : After). a.out) e))
