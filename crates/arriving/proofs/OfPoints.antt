@@ -21,7 +21,6 @@ use Rattle.block.proofs.Runs.{block_bytes, block_part}
 use Rattle.block.proofs.Arrays.{in_upto}
 use Rattle.block.proofs.Numbers.{Bytes, field_bound}
 use Rattle.block.proofs.Content.{block_length}
-use Rattle.block.proofs.Parts.{part_is}
 use Rattle.row.specs.Row.{sound}
 use Rattle.meaning.specs.Context.{entry}
 use Rattle.meaning.specs.Object.{Version}

@@ -1,17 +1,16 @@
 -- A block that was sealed is 512 bytes long and its check is right. Assumes nothing.
-use Prim.Native.Nat.{ℕ, zero, suc, ◌+◌, ◌*◌, ◌-◌, ◌%◌, ◌^◌, ◌≤◌, ◌<◌}
-use mathlib.Core.Path.{◌≡◌, refl, ap, ap₂, sym, ◌∙◌, subst}
-use mathlib.Core.Bool.{Bool, true, false, ◌&&◌}
-use mathlib.Core.List.{List, [], ◌∷◌, ◌++◌}
+use Prim.Native.Nat.{ℕ, ◌+◌, ◌*◌, ◌-◌, ◌<◌}
+use mathlib.Core.Path.{◌≡◌, ap, sym, ◌∙◌}
+use mathlib.Core.Bool.{true}
+use mathlib.Core.List.{List, ◌∷◌, ◌++◌}
 use native.Mathlib.Omega.{arith}
-use native.Mathlib.Nat.{mod-lt}
-use lib.ListN.{length, take, drop, length-append}
-use lib.Seq.{take_at, take_all, take-append-le}
+use lib.ListN.{length, take, length-append}
+use lib.Seq.{take_at, take_all}
 use lib.Dec.{eqb}
 use borrow.Author.Tests.{eq-eqb}
 use Rattle.numbers.proofs.Tests.{and_both}
 use Rattle.block.specs.declared.Sums.{Sums}
-use Rattle.block.specs.Fields.{le, number, cut, field}
+use Rattle.block.specs.Fields.{le, number, field}
 use Rattle.block.specs.Check.{add_word, sums_from, sums, seal, sealed}
 use Rattle.block.proofs.Numbers.{le_length, number_le}
 use Rattle.block.proofs.Parts.{cut_past, cut_first, cut_whole}

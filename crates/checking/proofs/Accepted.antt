@@ -2,12 +2,12 @@
 use Prim.Native.Nat.{ℕ}
 use mathlib.Core.Path.{◌≡◌, ◌∙◌}
 use mathlib.Core.Bool.{true, false}
-use mathlib.Core.List.{List, [], ◌∷◌}
+use mathlib.Core.List.{List, ◌∷◌}
 use Rattle.numbers.specs.Words.{some?}
 use Rattle.refusal.specs.declared.Verdict.TheVariants.{Accepted, Refused}
 use Rattle.refusal.specs.declared.Refusal.{Refusal}
 use Rattle.refusal.specs.declared.Refusal.TheVariants.{WrongCheck, IllFormed, OutOfRange, NotPeer, HistoryLost, DotClash}
-use Rattle.refusal.specs.Refusal.{Answer, refused, accepted, ◌>>=◌, verdict_of}
+use Rattle.refusal.specs.Refusal.{Answer, refused, ◌>>=◌, verdict_of}
 use Rattle.meaning.specs.Object.{merge}
 use Rattle.meaning.specs.State.{Stored, State, local}
 use Rattle.meaning.specs.Settle.{settle}

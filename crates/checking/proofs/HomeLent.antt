@@ -14,7 +14,7 @@ use Rattle.block.proofs.Numbers.{Bytes}
 use Rattle.block.proofs.Arrays.{get_or_in, upto_at, upto_length}
 use Rattle.meaning.specs.Object.{same_contents, Version, version_before, has_dot}
 use Rattle.meaning.specs.State.{Stored}
-use Rattle.layout.specs.PointBlock.{form_1, decode_point, decode_stored}
+use Rattle.layout.specs.PointBlock.{form_1, decode_point}
 use Rattle.layout.specs.Image.{image_length, decode, good_image}
 use Rattle.apart.specs.Apart.{point_of}
 use Rattle.image.specs.Parts.{Few}

@@ -4,7 +4,7 @@ use mathlib.Core.Path.{◌≡◌, refl, sym, ap, subst}
 use mathlib.Core.Logic.{◌⊎◌, inl, inr, ⊎_elim}
 use mathlib.Core.Bool.{true}
 use mathlib.Core.List.Memᴰ
-use mathlib.Core.List.{List, [], ◌∷◌, ◌++◌}
+use mathlib.Core.List.{List, ◌∷◌, ◌++◌}
 use native.Mathlib.Nat.{le_refl, le_trans}
 use Rattle.numbers.specs.declared.Controller.{Controller}
 use Rattle.numbers.specs.declared.Key.{Key}
@@ -32,7 +32,6 @@ use Rattle.crew.proofs.Looking.{ascending_distinct}
 use Rattle.crew.proofs.Knows.{Knows, local_named}
 use Rattle.crew.proofs.Storing.{dots_counted, take_in_right, take_in_knows}
 use Rattle.crew.proofs.Storing as storing
-use Rattle.crew.proofs.Repaired as mending
 use Rattle.crew.proofs.Stripped.{strip_pass_knows}
 use Rattle.crew.proofs.Steps.{for_each, Steps, stays, take_in_steps, strip_steps}
 use Rattle.crew.proofs.Sound.{Sound}

@@ -24,7 +24,6 @@ use Rattle.crew.specs.Moment.{Sent, Moment, for, seeing, made, reply_brings}
 use Rattle.crew.proofs.Right.{Writes, ◌∪◌, At, History, Right}
 use Rattle.crew.proofs.Knows.{Knows}
 use Rattle.crew.proofs.Storing.{dots_counted}
-use Rattle.crew.proofs.Storing as storing
 use Rattle.crew.proofs.Repaired.{with_row_more, Told, Brought, Mended, repair_knows}
 use Rattle.crew.proofs.Repaired as mending
 use Rattle.crew.proofs.Steps.{Steps, repair_steps}

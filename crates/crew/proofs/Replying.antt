@@ -4,7 +4,7 @@ use mathlib.Core.Path.{◌≡◌, sym, ap, ◌∙◌, subst}
 use mathlib.Core.Logic.{◌⊎◌, inl, inr, ⊎_elim}
 use mathlib.Core.Bool.{Bool, true, false, ◌&&◌, not}
 use mathlib.Core.List.Memᴰ
-use mathlib.Core.List.{List, []}
+use mathlib.Core.List.{List}
 use native.Mathlib.Nat.{le_refl}
 use Rattle.numbers.specs.declared.Controller.{Controller}
 use Rattle.numbers.specs.declared.Key.{Key}
@@ -36,7 +36,6 @@ use Rattle.crew.specs.Moment.{Sent, Moment, made, asking, replying, carries}
 use Rattle.crew.proofs.Right.{Writes, At, History, Right, positive}
 use Rattle.crew.proofs.Looking.{ascending_distinct}
 use Rattle.crew.proofs.Knows.{Knows}
-use Rattle.crew.proofs.Storing as storing
 use Rattle.crew.proofs.Repaired.{Told, Brought, in_carries}
 use Rattle.crew.proofs.Sound.{Sound}
 use Rattle.crew.proofs.Listing.{Peer, peers_are, place_all_comes}

@@ -3,7 +3,7 @@ use mathlib.Core.Path.{◌≡◌, refl, sym, ap, ◌∙◌, subst}
 use mathlib.Core.Logic.{inl, inr, ⊎_elim, ⊎_map}
 use mathlib.Core.Bool.{true}
 use mathlib.Core.List.Memᴰ
-use mathlib.Core.List.{List, [], ◌∷◌}
+use mathlib.Core.List.{List, ◌∷◌}
 use native.Mathlib.Nat.{le_refl}
 use Rattle.numbers.specs.declared.Controller.{Controller}
 use Rattle.numbers.specs.declared.Counter.{Counter}
@@ -13,7 +13,6 @@ use Rattle.numbers.specs.Numbers.{is_counter}
 use Rattle.numbers.specs.Key.{same_key}
 use Rattle.numbers.proofs.Tests.{never, ◌∈◌, here}
 use Rattle.numbers.proofs.Dots.{key_itself, dot_path}
-use Rattle.refusal.specs.Refusal.{accepted}
 use Rattle.meaning.specs.CrewTable.{CrewTable}
 use Rattle.meaning.specs.Clock.{Clock, row}
 use Rattle.meaning.specs.Object.{Object, merge}

@@ -2,9 +2,9 @@
 use Prim.Native.Nat.{ℕ, ◌+◌, ◌*◌, ◌≤◌}
 use mathlib.Core.Path.{◌≡◌, refl, sym, ap, subst}
 use mathlib.Core.Logic.{⊎_elim}
-use mathlib.Core.Bool.{true, false, true≢false}
+use mathlib.Core.Bool.{true, true≢false}
 use mathlib.Core.List.Memᴰ
-use mathlib.Core.List.{List, [], ◌∷◌, ◌++◌}
+use mathlib.Core.List.{List, ◌∷◌, ◌++◌}
 use lib.ListN.{length, take}
 use Rattle.numbers.specs.declared.Controller.{Controller}
 use Rattle.numbers.specs.Words.{map}
@@ -18,10 +18,8 @@ use Rattle.layout.specs.Image.{encode}
 use Rattle.layout.specs.Messages.{encode_outgoing, encode_ask, encode_reply}
 use Rattle.layout.specs.Calls.{After}
 use Rattle.crew.specs.Moment.{Sent, Moment, for, beginning, starting, seeing, writing, asking, replying}
-use Rattle.crew.specs.Run as run
 use Rattle.crew.proofs.Steps.{for_each}
 use Rattle.crew.proofs.Invariant.{for_both}
-use Rattle.crew_bytes.specs.Bytes as bytes
 use Rattle.crew_bytes.specs.Bytes.{ByteMoment, no_images, left_by, started_by, seen_by, written_by, asked_by, replied_by}
 
 -- a message with what its sender had seen, in bytes

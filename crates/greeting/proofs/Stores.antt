@@ -1,9 +1,9 @@
 -- A greeting, by the stores that make it. Assumes nothing.
 use Prim.Native.Nat.{ℕ, ◌+◌, ◌-◌}
-use mathlib.Core.Path.{◌≡◌, refl, ap, sym, ◌∙◌}
-use mathlib.Core.List.{List, ◌++◌, append_assoc}
+use mathlib.Core.Path.{◌≡◌, ap, sym, ◌∙◌}
+use mathlib.Core.List.{List, ◌++◌}
 use native.Mathlib.Omega.{arith}
-use lib.ListN.{length, take, drop, length-append}
+use lib.ListN.{length, take}
 use lib.Seq.{take-append-add}
 use Rattle.numbers.specs.declared.Controller.{Controller}
 use Rattle.block.specs.Fields.{le, splice, zeros, pad}
@@ -11,7 +11,7 @@ use Rattle.block.specs.Check.{seal}
 use Rattle.block.specs.Block.{make_block}
 use Rattle.block.proofs.Numbers.{Bytes}
 use Rattle.block.proofs.Edits.{cleared}
-use Rattle.layout.specs.Clocks.{encode_clock, decode_clock}
+use Rattle.layout.specs.Clocks.{decode_clock}
 use Rattle.layout.specs.Messages.{encode_greeting}
 use Rattle.head.proofs.Again.{clock_again}
 

@@ -10,7 +10,7 @@ use lib.Dec.{ltb}
 use borrow.Author.Tests.{ltb-false, le-ltb}
 use Rattle.numbers.specs.declared.Controller.{Controller}
 use Rattle.numbers.specs.Words.{all?, some?}
-use Rattle.numbers.specs.Numbers.{last_counter, same_controller, controllers}
+use Rattle.numbers.specs.Numbers.{last_counter, same_controller}
 use Rattle.numbers.proofs.Tests.{and_left, or_false, ◌∈◌}
 use Rattle.numbers.proofs.Lists.{none_in, all_in, passed, ◌and_also◌, all_passed}
 use Rattle.numbers.proofs.Controllers.{Crew}

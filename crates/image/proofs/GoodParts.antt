@@ -1,16 +1,15 @@
 -- A state of the right shape is good just where its parts are. Assumes nothing.
 use Prim.Native.Nat.{ℕ, ◌≤◌}
 use mathlib.Core.Path.{◌≡◌, refl, sym, ap, ◌∙◌}
-use mathlib.Core.Bool.{Bool, true, false, ◌&&◌, ◌||◌, not}
-use mathlib.Core.List.{List, [], ◌∷◌, ◌++◌}
+use mathlib.Core.Bool.{Bool, true, false, ◌&&◌, not}
+use mathlib.Core.List.{List, ◌∷◌, ◌++◌}
 use lib.ListN.{length, get_or}
 use lib.Dec.{leb, eqb}
 use borrow.Author.Tests.{le-leb, eq-eqb}
-use Rattle.numbers.specs.declared.Controller.{Controller}
-use Rattle.numbers.specs.Words.{every, all?, ascends?}
+use Rattle.numbers.specs.Words.{all?, ascends?}
 use Rattle.numbers.specs.Numbers.{is_controller, same_controller, controllers}
 use Rattle.numbers.proofs.Tests.{same_test, and_left, and_right, and_both, and_group, ◌∈◌}
-use Rattle.numbers.proofs.Lists.{all_in, in_all, clause, Passed, passed, ◌and_also◌, all_passed}
+use Rattle.numbers.proofs.Lists.{all_in, in_all, clause, passed, ◌and_also◌, all_passed}
 use Rattle.meaning.specs.CrewTable.{is_table, holds}
 use Rattle.meaning.specs.Clock.{row, in_clock}
 use Rattle.meaning.specs.Context.{entry, fill_context}
@@ -19,7 +18,7 @@ use Rattle.meaning.specs.State.{Stored, stored_before, Listed, listed_before, St
 use Rattle.meaning.specs.Message.{point_formed, covers_all}
 use Rattle.meaning.specs.Settle.{most_points, most_listed}
 use Rattle.meaning.specs.Good.{sized, rows_sound, own_row_whole, points_formed, points_ascend, listed_formed, lists_formed, lists_ascend, lists_apart, jobs_held, versions_covered, versions_in_clock, lists_in_clock, dots_apart, rows_of_peers, marks_of_peers, own_marks_known, own_entries_known, records_needed, clauses, good_state}
-use Rattle.layout.specs.Image.{Head, head_of}
+use Rattle.layout.specs.Image.{head_of}
 use Rattle.head.specs.HeadGood.{bare, own_column_known, head_good}
 use Rattle.dots.specs.DotsGood.{in_its_list, dots_good}
 use Rattle.record.specs.RecordGood.{record_good}

@@ -1,10 +1,10 @@
 -- The clock after dots have entered it and after a row was united, row by row. Assumes nothing.
-use Prim.Native.Nat.{ℕ, ◌+◌, ◌≤◌, ◌<◌}
+use Prim.Native.Nat.{◌+◌, ◌≤◌, ◌<◌}
 use mathlib.Core.Path.{◌≡◌, refl, sym, ap, ◌∙◌, subst}
-use mathlib.Core.Logic.{◌⊎◌, inl, inr, ◌↔◌, ⊎_elim, ⊎_map}
-use mathlib.Core.Bool.{Bool, true, false}
+use mathlib.Core.Logic.{◌⊎◌, inl, inr, ◌↔◌, ⊎_elim}
+use mathlib.Core.Bool.{true, false}
 use mathlib.Core.List.Memᴰ
-use mathlib.Core.List.{List, [], ◌∷◌}
+use mathlib.Core.List.{List, ◌∷◌}
 use native.Mathlib.Omega.{arith}
 use native.Mathlib.Nat.{le_refl}
 use lib.ListN.{length}
@@ -18,7 +18,7 @@ use Rattle.numbers.specs.Numbers.{is_counter, same_controller, each}
 use Rattle.numbers.proofs.Tests.{by_test, never, ◌∈◌, here, there}
 use Rattle.numbers.proofs.Controllers.{Crew, at_each, each_same, each_entry, same_controllers, controller_itself}
 use Rattle.row.specs.declared.Row.{Row}
-use Rattle.row.specs.Row.{none_seen, has, add, unite, sound}
+use Rattle.row.specs.Row.{none_seen, add, unite, sound}
 use Rattle.row.proofs.Members.{Clear}
 use Rattle.row.proofs.Adding.{add_base, add_old, add_next, add_all, Positive, add_all_has, any_order}
 use Rattle.row.proofs.Highest.{counter_positive, add_sound}

@@ -1,9 +1,9 @@
 -- The tests of the definitions as facts: what a well-formed point, context and clock is made of. Assumes nothing.
-use Prim.Native.Nat.{ℕ, zero, suc, ◌≤◌, ◌<◌}
-use mathlib.Core.Path.{◌≡◌, refl, sym, ap, ◌∙◌, subst}
-use mathlib.Core.Logic.{◌⊎◌, inl, inr, ◌↔◌, ⊎_elim}
-use mathlib.Core.Bool.{Bool, true, false, ◌&&◌, ◌||◌, not}
-use mathlib.Core.List.{List, [], ◌∷◌}
+use Prim.Native.Nat.{ℕ, zero, suc, ◌≤◌}
+use mathlib.Core.Path.{◌≡◌, refl, ap, subst}
+use mathlib.Core.Logic.{◌⊎◌, ⊎_elim}
+use mathlib.Core.Bool.{Bool, true, ◌&&◌, ◌||◌, not}
+use mathlib.Core.List.{List, ◌∷◌}
 use native.Mathlib.Omega.{arith}
 use lib.ListN.{length}
 use lib.Dec.{leb, eqb}
@@ -11,23 +11,23 @@ use borrow.Author.Tests.{leb-true, le-leb, eqb-true, eq-eqb, not-true}
 use Rattle.numbers.specs.declared.Controller.{Controller}
 use Rattle.numbers.specs.declared.Dot.{Dot}
 use Rattle.numbers.specs.declared.Key.{Key}
-use Rattle.numbers.specs.Words.{every, all?, some?, ascends?, concat_map, map}
+use Rattle.numbers.specs.Words.{all?, some?, ascends?, map}
 use Rattle.numbers.specs.Numbers.{last_counter, is_controller, is_counter, is_point, is_job, same_controller, controllers}
 use Rattle.numbers.specs.Dot.{same_dot}
 use Rattle.numbers.specs.Key.{is_key, same_key}
 use Rattle.numbers.proofs.Tests.{by_test, never, and_left, and_right, and_both, or_cases, or_inl, or_inr, ◌∈◌, here, there}
-use Rattle.numbers.proofs.Lists.{in_some, all_in, in_all, in_map, map_in, in_concat_map, concat_map_in, clause, Passed, passed, ◌and_also◌, all_passed}
+use Rattle.numbers.proofs.Lists.{in_some, all_in, in_all, in_map, map_in, in_concat_map, concat_map_in, clause, passed, ◌and_also◌, all_passed}
 use Rattle.numbers.proofs.Controllers.{Crew, crew_is, is_crew, crew_in, in_crew}
 use Rattle.numbers.proofs.Orders.{Ascends}
 use Rattle.numbers.proofs.Dots.{same_dots, dot_itself, same_keys, key_itself}
 use Rattle.row.specs.declared.Row.{Row}
-use Rattle.row.specs.Row.{none_seen, fits, sound}
+use Rattle.row.specs.Row.{none_seen}
 use Rattle.meaning.specs.CrewTable.{CrewTable, jobs, holds, share_job}
 use Rattle.meaning.specs.Clock.{Clock, row, every_row}
 use Rattle.meaning.specs.Context.{Context, entry, covers}
 use Rattle.meaning.specs.Object.{Version, version_before, Object}
 use Rattle.meaning.specs.State.{Stored, Listed, State, peers, dots_of}
-use Rattle.meaning.specs.Message.{contents_formed, version_formed, versions_formed, context_formed, most_versions, point_formed, covers_all, is_none, clock_formed, dots_agree}
+use Rattle.meaning.specs.Message.{contents_formed, version_formed, versions_formed, context_formed, most_versions, point_formed, covers_all, is_none, dots_agree}
 use Rattle.laws.proofs.ContextLaws.{Named}
 
 -- what holds of every controller passes of the controllers, and the other way round

@@ -1,29 +1,29 @@
 -- A good state as facts, clause by clause: the test `good_state` passes exactly where they hold. Assumes nothing.
-use Prim.Native.Nat.{ℕ, ◌≤◌, ◌<◌}
-use mathlib.Core.Path.{◌≡◌, refl, sym, ap, ◌∙◌, subst}
-use mathlib.Core.Logic.{◌⊎◌, inl, inr, ◌↔◌, ⊎_elim}
+use Prim.Native.Nat.{ℕ, ◌≤◌}
+use mathlib.Core.Path.{◌≡◌, sym, ap, ◌∙◌}
+use mathlib.Core.Logic.{◌⊎◌, ⊎_elim}
 use mathlib.Core.Bool.{Bool, true, false, ◌&&◌, ◌||◌, not}
-use mathlib.Core.List.{List, [], ◌∷◌}
+use mathlib.Core.List.{List, ◌∷◌}
 use lib.ListN.{length}
 use lib.Dec.{leb, eqb}
 use borrow.Author.Tests.{leb-true, le-leb, eqb-true, eq-eqb, not-true}
 use Rattle.numbers.specs.declared.Controller.{Controller}
-use Rattle.numbers.specs.Words.{every, all?, ascends?}
+use Rattle.numbers.specs.Words.{all?, ascends?}
 use Rattle.numbers.specs.Numbers.{last_counter, is_controller, same_controller, controllers}
 use Rattle.numbers.proofs.Tests.{by_test, never, and_left, and_right, and_both, or_cases, or_inl, or_inr, ◌∈◌}
-use Rattle.numbers.proofs.Lists.{all_in, in_all, clause, Passed, passed, ◌and_also◌, all_passed}
+use Rattle.numbers.proofs.Lists.{all_in, in_all, clause, passed, ◌and_also◌, all_passed}
 use Rattle.numbers.proofs.Controllers.{Crew, crew_is, is_crew}
 use Rattle.numbers.proofs.Orders.{Ascends}
 use Rattle.row.specs.Row.{none_seen, fits, sound}
 use Rattle.meaning.specs.CrewTable.{CrewTable, is_table, holds}
 use Rattle.meaning.specs.Clock.{Clock, row, in_clock}
 use Rattle.meaning.specs.Context.{entry, covers, fill_context}
-use Rattle.meaning.specs.Object.{Version, Object, gone}
+use Rattle.meaning.specs.Object.{Version, gone}
 use Rattle.meaning.specs.State.{Stored, stored_before, Listed, listed_before, mark, State, peers, own_base, listed, dots_of}
 use Rattle.meaning.specs.Message.{point_formed, covers_all, is_none, dots_agree}
 use Rattle.meaning.specs.Settle.{most_points, most_listed}
 use Rattle.meaning.specs.Good.{sized, rows_sound, own_row_whole, points_formed, points_ascend, listed_formed, lists_formed, lists_ascend, lists_apart, jobs_held, versions_covered, versions_in_clock, lists_in_clock, dots_apart, rows_of_peers, marks_of_peers, own_marks_known, own_entries_known, records_needed, clauses, good_state}
-use Rattle.laws.proofs.Facts.{each_controller, every_controller, PointFacts, point_facts, point_of_facts, covers_each, each_covered, none_is, is_none_seen, row_at, at_every_row, DotOf, in_dots, dots_in, agree_at, at_agree}
+use Rattle.laws.proofs.Facts.{each_controller, every_controller, PointFacts, point_facts, point_of_facts, covers_each, each_covered, none_is, is_none_seen, row_at, at_every_row, in_dots, dots_in, agree_at, at_agree}
 
 -- what is known of one record, but that it is needed
 pub record RecordFacts (t : CrewTable) (own : Controller) (k : Clock) (p : Stored) : Type 0 where

@@ -1,12 +1,10 @@
 -- The filled local object of a held point: well-formed, covered, known, and stored under that point. Assumes nothing.
-use Prim.Native.Nat.{ℕ, ◌≤◌, max}
-use mathlib.Core.Path.{◌≡◌, refl, sym, ap, ◌∙◌, subst}
-use mathlib.Core.Logic.{◌⊎◌, inl, inr, ⊎_elim}
-use mathlib.Core.Bool.{Bool, true, false}
+use Prim.Native.Nat.{ℕ, ◌≤◌}
+use mathlib.Core.Path.{◌≡◌, refl, subst}
+use mathlib.Core.Logic.{◌⊎◌, ⊎_elim}
+use mathlib.Core.Bool.{true}
 use mathlib.Core.List.Memᴰ
-use mathlib.Core.List.{List, [], ◌∷◌}
 use native.Mathlib.Omega.{arith}
-use lib.ListN.{length}
 use Rattle.numbers.specs.declared.Controller.{Controller}
 use Rattle.numbers.specs.declared.Key.{Key}
 use Rattle.numbers.specs.Numbers.{last_counter}
@@ -17,7 +15,7 @@ use Rattle.meaning.specs.CrewTable.{CrewTable, holds}
 use Rattle.meaning.specs.Clock.{Clock, row, in_clock}
 use Rattle.meaning.specs.Context.{Context, entry, no_context, covers, fill_context}
 use Rattle.meaning.specs.Object.{Version, Object, no_object, fill}
-use Rattle.meaning.specs.State.{Stored, State, own_base, look_up, local}
+use Rattle.meaning.specs.State.{Stored, State, own_base, local}
 use Rattle.laws.proofs.ContextLaws.{fill_holder, fill_other, fill_named, no_entry}
 use Rattle.laws.proofs.Facts.{VersionsFacts, ContextFacts}
 use Rattle.laws.proofs.Goodness.{RecordFacts, Good}

@@ -1,17 +1,16 @@
 -- The laws of merge: its versions ascend, and it is commutative, idempotent and associative on well-formed objects. Assumes nothing.
-use Prim.Native.Nat.{ℕ, ◌≤◌, ◌<◌, max}
+use Prim.Native.Nat.{ℕ, max}
 use mathlib.Core.Path.{◌≡◌, refl, sym, ap, ◌∙◌, subst}
-use mathlib.Core.Logic.{◌⊎◌, inl, inr, ◌↔◌, ⊎_elim, ⊎_map}
+use mathlib.Core.Logic.{◌⊎◌, inl, inr, ⊎_elim, ⊎_map}
 use mathlib.Core.Bool.{Bool, true, false, ◌&&◌, ◌||◌, not, false≢true}
-use mathlib.Core.List.{List, [], ◌∷◌}
+use mathlib.Core.List.{List}
 use native.Mathlib.Omega.{arith}
 use lib.ListN.{length}
 use Rattle.numbers.specs.declared.Controller.{Controller}
 use Rattle.numbers.specs.declared.Dot.{Dot}
-use Rattle.numbers.specs.Words.{keep, some?, place_all}
-use Rattle.numbers.specs.Numbers.{counter, each}
+use Rattle.numbers.specs.Numbers.{counter}
 use Rattle.numbers.specs.Dot.{same_dot}
-use Rattle.numbers.proofs.Tests.{by_test, never, same_test, and_left, and_right, and_both, or_cases, or_inl, or_inr, not-true, ◌∈◌}
+use Rattle.numbers.proofs.Tests.{by_test, same_test, and_left, and_right, and_both, or_cases, or_inl, or_inr, ◌∈◌}
 use Rattle.numbers.proofs.Lists.{in_keep, keep_in, some_in, in_some, in_place_all, place_all_in}
 use Rattle.numbers.proofs.Controllers.{Crew, each_same, each_entry}
 use Rattle.numbers.proofs.Orders.{Order, by_pair, Ascends, one_place, keep_ascends, place_all_ascends, ascending_same}

@@ -1,36 +1,36 @@
 -- A message's objects, merged with the local ones, are fit results: in a take in (one object) and in a repair (many). Assumes nothing.
-use Prim.Native.Nat.{ℕ, ◌+◌, ◌≤◌, ◌<◌}
+use Prim.Native.Nat.{◌+◌, ◌≤◌}
 use mathlib.Core.Path.{◌≡◌, refl, sym, ap, ◌∙◌, subst}
-use mathlib.Core.Logic.{◌⊎◌, inl, inr, ⊎_elim, ⊎_map}
-use mathlib.Core.Bool.{Bool, true, false, ◌&&◌, ◌||◌, not}
-use mathlib.Core.List.{List, [], ◌∷◌}
+use mathlib.Core.Logic.{◌⊎◌, inl, inr, ⊎_elim}
+use mathlib.Core.Bool.{true, false, ◌&&◌, not}
+use mathlib.Core.List.{List}
 use native.Mathlib.Omega.{arith}
 use lib.ListN.{length}
 use borrow.Author.Tests.{not-false}
 use Rattle.numbers.specs.declared.Controller.{Controller}
 use Rattle.numbers.specs.declared.Dot.{Dot}
 use Rattle.numbers.specs.declared.Key.{Key}
-use Rattle.numbers.specs.Words.{some?, keep, place_all, map}
-use Rattle.numbers.specs.Numbers.{last_counter, same_controller}
+use Rattle.numbers.specs.Words.{some?, place_all, map}
+use Rattle.numbers.specs.Numbers.{same_controller}
 use Rattle.numbers.specs.Dot.{same_dot}
 use Rattle.numbers.specs.Key.{is_key, same_key}
 use Rattle.numbers.proofs.Tests.{by_test, never, and_left, and_false, or_false, ◌∈◌}
 use Rattle.numbers.proofs.Lists.{none_in, keep_none, in_map}
 use Rattle.numbers.proofs.Controllers.{Crew, same_controllers}
-use Rattle.numbers.proofs.Dots.{same_dots, dot_itself, same_keys}
+use Rattle.numbers.proofs.Dots.{dot_itself, same_keys}
 use Rattle.row.specs.declared.Row.{Row}
 use Rattle.row.specs.Row.{none_seen, sound}
 use Rattle.row.proofs.Highest.{counter_positive}
 use Rattle.meaning.specs.CrewTable.{holds}
 use Rattle.meaning.specs.Clock.{Clock, row, in_clock}
-use Rattle.meaning.specs.Context.{Context, entry, covers, higher}
+use Rattle.meaning.specs.Context.{entry, covers, higher}
 use Rattle.meaning.specs.Object.{same_contents, Version, Object, merge}
-use Rattle.meaning.specs.State.{Stored, Listed, listed_before, State, peers, own_base, listed, dots_of, local}
+use Rattle.meaning.specs.State.{Stored, Listed, listed_before, State, peers, own_base, listed, local}
 use Rattle.meaning.specs.Settle.{most_listed, entered, newly_listed, own_listed}
 use Rattle.meaning.specs.Exchange.{clashes}
 use Rattle.laws.proofs.ContextLaws.{Rising, higher_entry, higher_named}
 use Rattle.laws.proofs.MergeLaws.{merge_from, merge_ascends, WellFormed, merge_formed}
-use Rattle.laws.proofs.Facts.{VersionFacts, VersionsFacts, ContextFacts, in_dots}
+use Rattle.laws.proofs.Facts.{VersionsFacts, ContextFacts, in_dots}
 use Rattle.laws.proofs.Goodness.{Good}
 use Rattle.laws.proofs.Entering.{entered_base}
 use Rattle.laws.proofs.Putting.{in_newly}

@@ -5,7 +5,7 @@ use mathlib.Core.Path.{◌≡◌, refl, sym, ap, ◌∙◌, subst}
 use mathlib.Core.Logic.{⊎_elim}
 use mathlib.Core.Bool.{Bool, true, false, ◌&&◌, not}
 use mathlib.Core.List.Memᴰ
-use mathlib.Core.List.{List, [], ◌++◌}
+use mathlib.Core.List.{List, ◌++◌}
 use native.Mathlib.Omega.{arith}
 use native.Mathlib.Nat.{le_trans}
 use lib.ListN.{length, get_or}
@@ -27,7 +27,7 @@ use Rattle.meaning.specs.Clock.{row}
 use Rattle.meaning.specs.Object.{Version, strip, gone}
 use Rattle.meaning.specs.State.{Stored, stored_before, Listed, listed_before, mark, State, peers, own_base, listed}
 use Rattle.meaning.specs.Message.{Reply}
-use Rattle.meaning.specs.Settle.{stripped, put}
+use Rattle.meaning.specs.Settle.{put}
 use Rattle.meaning.specs.OwnSteps.{fresh, start, strip_pass}
 use Rattle.meaning.specs.Exchange.{raised, known_to_all, tidied}
 use Rattle.laws.proofs.Goodness.{RecordFacts, Good}

@@ -1,23 +1,23 @@
 -- The records and the lists after storing: where each of them comes from. Assumes nothing.
-use Prim.Native.Nat.{ℕ, ◌+◌, ◌-◌, ◌≤◌}
-use mathlib.Core.Path.{◌≡◌, refl, sym, ap, ◌∙◌, subst}
+use Prim.Native.Nat.{◌+◌, ◌-◌, ◌≤◌}
+use mathlib.Core.Path.{◌≡◌, refl, sym, ap, ◌∙◌}
 use mathlib.Core.Logic.{◌⊎◌, inl, inr, ⊎_elim, ⊎_map}
-use mathlib.Core.Bool.{Bool, true, false, not}
+use mathlib.Core.Bool.{true, false, not}
 use mathlib.Core.List.Memᴰ
-use mathlib.Core.List.{List, [], ◌∷◌, ◌++◌}
+use mathlib.Core.List.{List, ◌∷◌, ◌++◌}
 use native.Mathlib.Omega.{arith}
 use lib.ListN.{length, take, length-take}
 use borrow.Author.Tests.{not-true}
 use Rattle.numbers.specs.declared.Key.{Key}
-use Rattle.numbers.specs.Words.{if◌then◌else◌, keep, place, place_all, fold}
+use Rattle.numbers.specs.Words.{keep, place_all, fold}
 use Rattle.numbers.specs.Numbers.{same_controller}
 use Rattle.numbers.specs.Key.{same_key}
-use Rattle.numbers.proofs.Tests.{by_test, never, ◌∈◌, here, there}
+use Rattle.numbers.proofs.Tests.{by_test, ◌∈◌, here, there}
 use Rattle.numbers.proofs.Lists.{Tied, in_left, in_right, in_keep, in_place_all}
-use Rattle.numbers.proofs.Orders.{Order, by_pair, Ascends, keep_ascends, take_in, take_ascends, place_ascends, place_all_ascends, in_place_apart, place_all_length}
+use Rattle.numbers.proofs.Orders.{Order, by_pair, Ascends, keep_ascends, take_in, place_ascends, place_all_ascends, in_place_apart, place_all_length}
 use Rattle.numbers.proofs.Dots.{same_keys, keys_tied}
 use Rattle.meaning.specs.Clock.{Clock, in_clock}
-use Rattle.meaning.specs.Object.{Version, Object, no_object, strip, gone}
+use Rattle.meaning.specs.Object.{no_object, strip, gone}
 use Rattle.meaning.specs.State.{Stored, stored_before, Listed, listed_before, State, listed, dots_of, look_up}
 use Rattle.meaning.specs.Settle.{most_listed, without, stripped, put, newly_listed, own_listed, foreign_listed}
 

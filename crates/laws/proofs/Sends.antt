@@ -1,36 +1,32 @@
 -- What an accepted step writes is a well-formed message for every holder of the same table: refusal 4 does not meet it. Assumes nothing.
-use Prim.Native.Nat.{ℕ, ◌+◌, ◌≤◌, ◌<◌}
+use Prim.Native.Nat.{ℕ, ◌≤◌}
 use mathlib.Core.Path.{◌≡◌, refl, sym, ap, ◌∙◌, subst}
-use mathlib.Core.Logic.{◌⊎◌, inl, inr, ⊎_elim, ⊎_map}
-use mathlib.Core.Bool.{Bool, true, false, ◌&&◌, ◌||◌, not}
+use mathlib.Core.Logic.{◌⊎◌, ⊎_elim}
+use mathlib.Core.Bool.{true, false, ◌&&◌, ◌||◌, not}
 use mathlib.Core.List.Memᴰ
-use mathlib.Core.List.{List, [], ◌∷◌, ◌++◌}
+use mathlib.Core.List.{List, ◌∷◌}
 use native.Mathlib.Omega.{arith}
-use native.Mathlib.Nat.{le_trans}
 use lib.ListN.{length, length-append}
-use lib.Dec.{eqb}
 use borrow.Author.Tests.{eq-eqb, not-true}
 use Rattle.numbers.specs.declared.Controller.{Controller}
-use Rattle.numbers.specs.declared.Dot.{Dot}
 use Rattle.numbers.specs.declared.Key.{Key}
-use Rattle.numbers.specs.Words.{some?, all?, keep, place_all, map, ascends?}
-use Rattle.numbers.specs.Numbers.{is_controller, is_counter, same_controller, controllers}
+use Rattle.numbers.specs.Words.{place_all, map}
+use Rattle.numbers.specs.Numbers.{is_controller, is_counter, same_controller}
 use Rattle.numbers.specs.Key.{is_key, key_before}
 use Rattle.numbers.proofs.Tests.{by_test, never, and_left, and_right, and_both, or_cases, or_inl, or_inr, ◌∈◌, here}
 use Rattle.numbers.proofs.Lists.{some_in, in_some, in_keep, in_all, in_map, map_length, in_place_all, clause, passed, ◌and_also◌, all_passed}
-use Rattle.numbers.proofs.Controllers.{Crew, crew_is, is_crew, same_controllers}
+use Rattle.numbers.proofs.Controllers.{Crew, is_crew, same_controllers}
 use Rattle.numbers.proofs.Orders.{Ascends, place_all_ascends, map_ascends, keep_length, place_all_length}
 use Rattle.numbers.proofs.Dots.{key_order}
 use Rattle.refusal.specs.declared.Refusal.TheVariants.{IllFormed, OutOfRange, NotPeer, HistoryLost}
-use Rattle.refusal.specs.Refusal.{Answer, accepted}
-use Rattle.row.specs.Row.{none_seen, has, fits, sound}
+use Rattle.refusal.specs.Refusal.{accepted}
+use Rattle.row.specs.Row.{fits, sound}
 use Rattle.meaning.specs.CrewTable.{CrewTable, jobs, holds, share_job, in_some_job}
-use Rattle.meaning.specs.Clock.{Clock, row, every_row}
+use Rattle.meaning.specs.Clock.{row}
 use Rattle.meaning.specs.Context.{Context, no_context, covers, fill_context}
-use Rattle.meaning.specs.Object.{Contents, Version, Object, no_object}
+use Rattle.meaning.specs.Object.{Contents, Version, Object}
 use Rattle.meaning.specs.State.{Stored, stored_before, Listed, State, peers, listed, dots_of, look_up}
-use Rattle.meaning.specs.Message.{Outgoing, Ask, Reply, point_formed, covers_all, is_none, clock_formed, dots_agree, outgoing_formed, ask_formed, reply_formed}
-use Rattle.meaning.specs.Settle.{most_listed}
+use Rattle.meaning.specs.Message.{Outgoing, Ask, point_formed, covers_all, is_none, clock_formed, dots_agree, outgoing_formed, ask_formed, reply_formed}
 use Rattle.meaning.specs.OwnSteps.{Done, written}
 use Rattle.meaning.specs.Exchange.{other_peer, row_ahead_of_us, ask, lacking, as_stored, Replied, reply}
 use Rattle.meaning.specs.Good.{listed_formed}

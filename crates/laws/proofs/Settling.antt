@@ -1,35 +1,33 @@
 -- Storing keeps a state good: for results that are well-formed, held, covered and apart from what is stored and listed. Assumes nothing.
-use Prim.Native.Nat.{ℕ, ◌+◌, ◌≤◌, ◌<◌}
+use Prim.Native.Nat.{ℕ, ◌+◌, ◌≤◌}
 use mathlib.Core.Path.{◌≡◌, refl, sym, ap, ◌∙◌, subst}
-use mathlib.Core.Logic.{◌⊎◌, inl, inr, ◌↔◌, ⊎_elim, ⊎_map}
-use mathlib.Core.Bool.{Bool, true, false, ◌&&◌, ◌||◌, not}
-use mathlib.Core.List.{List, [], ◌∷◌, ◌++◌}
+use mathlib.Core.Logic.{◌⊎◌, inl, inr, ⊎_elim}
+use mathlib.Core.Bool.{true, false}
+use mathlib.Core.List.{List, ◌∷◌}
 use native.Mathlib.Omega.{arith}
 use lib.ListN.{length}
 use Rattle.numbers.specs.declared.Controller.{Controller}
 use Rattle.numbers.specs.declared.Counter.{Counter}
 use Rattle.numbers.specs.declared.Dot.{Dot}
-use Rattle.numbers.specs.declared.Key.{Key}
-use Rattle.numbers.specs.Words.{fold, every, some?, all?}
-use Rattle.numbers.specs.Numbers.{is_controller, is_counter, is_job, is_point, same_controller}
-use Rattle.numbers.specs.Key.{is_key, same_key}
-use Rattle.numbers.proofs.Tests.{by_test, never, and_left, and_both, or_inr, ◌∈◌, here, there}
-use Rattle.numbers.proofs.Lists.{in_some, passed, ◌and_also◌, all_passed, clause}
-use Rattle.numbers.proofs.Controllers.{Crew, crew_is, is_crew, same_controllers, controller_itself}
-use Rattle.numbers.proofs.Orders.{Ascends}
+use Rattle.numbers.specs.Words.{fold}
+use Rattle.numbers.specs.Numbers.{is_controller, is_counter, same_controller}
+use Rattle.numbers.specs.Key.{is_key}
+use Rattle.numbers.proofs.Tests.{never, ◌∈◌, here}
+use Rattle.numbers.proofs.Lists.{passed, ◌and_also◌, all_passed, clause}
+use Rattle.numbers.proofs.Controllers.{Crew, crew_is, is_crew}
 use Rattle.row.specs.declared.Row.{Row}
-use Rattle.row.specs.Row.{none_seen, has, fits, sound}
+use Rattle.row.specs.Row.{none_seen, fits, sound}
 use Rattle.row.proofs.Adding.{add_all}
-use Rattle.meaning.specs.CrewTable.{CrewTable, jobs, holds, share_job}
+use Rattle.meaning.specs.CrewTable.{CrewTable, holds}
 use Rattle.meaning.specs.Clock.{Clock, row, in_clock}
 use Rattle.meaning.specs.Context.{Context, entry, covers, fill_context, strip_context}
-use Rattle.meaning.specs.Object.{Version, Object, strip, gone}
-use Rattle.meaning.specs.State.{Stored, stored_before, Listed, State, peers, own_base, listed, dots_of}
-use Rattle.meaning.specs.Message.{most_versions, versions_formed, context_formed}
+use Rattle.meaning.specs.Object.{Version, strip, gone}
+use Rattle.meaning.specs.State.{Stored, Listed, State, peers, own_base, listed, dots_of}
+use Rattle.meaning.specs.Message.{most_versions}
 use Rattle.meaning.specs.Settle.{most_points, most_listed, entered, stripped, put, newly_listed, own_listed, foreign_listed, settled}
 use Rattle.meaning.specs.Good.{listed_formed}
-use Rattle.laws.proofs.ContextLaws.{Rising, Within, Named, covers_within, strip_cases, strip_within, strip_named, fill_strip, fill_raises, fill_monotone}
-use Rattle.laws.proofs.Facts.{holders_peers, VersionFacts, VersionsFacts, ContextFacts, PointFacts, DotOf, in_dots, dots_in}
+use Rattle.laws.proofs.ContextLaws.{Rising, covers_within, strip_within, strip_named, fill_strip, fill_raises, fill_monotone}
+use Rattle.laws.proofs.Facts.{holders_peers, VersionFacts, VersionsFacts, ContextFacts, in_dots, dots_in}
 use Rattle.laws.proofs.Goodness.{RecordFacts, ListedFacts, Good}
 use Rattle.laws.proofs.Entering.{entered_row, entered_eight, counts, in_counts, add_all_sound, add_all_whole, entered_more, entered_dots, entered_base}
 use Rattle.laws.proofs.Putting.{From, stays, comes, put_all_ascends, in_put_all, in_newly, in_own_listed, in_foreign_listed, in_listed, own_listed_ascends, foreign_listed_ascends, foreign_listed_few}

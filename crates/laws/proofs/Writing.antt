@@ -1,10 +1,10 @@
 -- A write and a delete: the object that they store is a fit result. Assumes nothing.
-use Prim.Native.Nat.{ℕ, ◌+◌, ◌≤◌, ◌<◌}
+use Prim.Native.Nat.{◌+◌, ◌≤◌, ◌<◌}
 use mathlib.Core.Path.{◌≡◌, refl, sym, ap, ◌∙◌, subst}
-use mathlib.Core.Logic.{◌⊎◌, inl, inr, ⊎_elim, ⊎_map}
-use mathlib.Core.Bool.{Bool, true, false, ◌&&◌, not}
+use mathlib.Core.Logic.{◌⊎◌, ⊎_elim, ⊎_map}
+use mathlib.Core.Bool.{true, false, not}
 use mathlib.Core.List.Memᴰ
-use mathlib.Core.List.{List, [], ◌∷◌, ◌++◌, append-nil}
+use mathlib.Core.List.{List, ◌∷◌, append-nil}
 use native.Mathlib.Omega.{arith}
 use lib.ListN.{length}
 use lib.Dec.{leb}
@@ -13,21 +13,20 @@ use Rattle.numbers.specs.declared.Controller.{Controller}
 use Rattle.numbers.specs.declared.Counter.{Counter}
 use Rattle.numbers.specs.declared.Dot.{Dot}
 use Rattle.numbers.specs.declared.Key.{Key}
-use Rattle.numbers.specs.Words.{if◌then◌else◌, keep, place, map}
+use Rattle.numbers.specs.Words.{if◌then◌else◌, keep, map}
 use Rattle.numbers.specs.Numbers.{counter, last_counter, is_counter, same_controller, each}
 use Rattle.numbers.specs.Key.{is_key}
 use Rattle.numbers.proofs.Tests.{by_test, never, and_both, ◌∈◌, here}
 use Rattle.numbers.proofs.Lists.{in_keep, in_place, place_here}
 use Rattle.numbers.proofs.Controllers.{Crew, same_controllers, controller_itself}
 use Rattle.numbers.proofs.Orders.{Ascends, keep_ascends, place_ascends, one_thing, map_ascends, place_all_length}
-use Rattle.row.specs.declared.Row.{Row}
 use Rattle.row.specs.Row.{has}
 use Rattle.row.proofs.Members.{low_has, whole_has}
-use Rattle.meaning.specs.CrewTable.{CrewTable, holds}
-use Rattle.meaning.specs.Clock.{Clock, row, in_clock}
+use Rattle.meaning.specs.CrewTable.{holds}
+use Rattle.meaning.specs.Clock.{row, in_clock}
 use Rattle.meaning.specs.Context.{Context, entry, covers}
 use Rattle.meaning.specs.Object.{Contents, Version, version_before, Object}
-use Rattle.meaning.specs.State.{Stored, Listed, listed_before, State, own_base, listed, dots_of, local}
+use Rattle.meaning.specs.State.{Stored, Listed, listed_before, State, own_base, dots_of, local}
 use Rattle.meaning.specs.Message.{contents_formed}
 use Rattle.meaning.specs.Settle.{most_listed, entered, newly_listed, own_listed}
 use Rattle.meaning.specs.OwnSteps.{next_dot, written}
@@ -38,7 +37,7 @@ use Rattle.laws.proofs.Goodness.{Good}
 use Rattle.laws.proofs.Entering.{entered_row, counts, in_counts, add_all_whole, entered_dots}
 use Rattle.laws.proofs.Putting.{listed_order, in_newly}
 use Rattle.laws.proofs.Settling.{Results}
-use Rattle.laws.proofs.Local.{ObjectFacts, LocalFacts, local_facts}
+use Rattle.laws.proofs.Local.{LocalFacts, local_facts}
 
 -- an own dot that is in the clock is at most the own base
 pub own_known : (s : State) → Good s → (d : Dot) → d.who ≡ s.own → in_clock s.clock d ≡ true → d.count.0 ≤ own_base s

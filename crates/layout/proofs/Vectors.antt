@@ -1,20 +1,19 @@
 -- Bytes from outside: blocks and images that the second program wrote, against the definitions, computed. Assumes nothing.
 use Prim.Native.Nat.{ℕ}
 use mathlib.Core.Path.{◌≡◌, refl}
-use mathlib.Core.Bool.{Bool, true}
-use mathlib.Core.List.{List, [], ◌∷◌, ◌++◌}
+use mathlib.Core.Bool.{true}
+use mathlib.Core.List.{List, ◌∷◌, ◌++◌}
 use lib.ListN.{drop}
 use Rattle.numbers.specs.declared.Key.{Key}
 use Rattle.numbers.specs.Numbers.{controller}
 use Rattle.numbers.specs.Key.{key}
-use Rattle.refusal.specs.declared.Verdict.TheVariants.{Accepted, Refused}
+use Rattle.refusal.specs.declared.Verdict.TheVariants.{Refused}
 use Rattle.refusal.specs.declared.Refusal.TheVariants.{WrongLength, ImageNotGood, WrongCheck, IllFormed}
-use Rattle.refusal.specs.Refusal.{Answer, refused, accepted, ◌>>=◌}
+use Rattle.refusal.specs.Refusal.{Answer, accepted}
 use Rattle.block.specs.Fields.{le, number, field, zeros, pad}
-use Rattle.block.specs.Check.{sums_from, sums, seal, sealed}
+use Rattle.block.specs.Check.{seal, sealed}
 use Rattle.block.specs.Block.{make_block, block_at, blocks}
 use Rattle.meaning.specs.Context.{no_context}
-use Rattle.meaning.specs.State.{State}
 use Rattle.meaning.specs.OwnSteps.{start, read, write, delete}
 use Rattle.meaning.specs.Exchange.{take_in, ask, reply, repair}
 use Rattle.meaning.proofs.Table.{everything, one_and_two, text, up_to}

@@ -1,11 +1,10 @@
 -- Longer runs of the definitions, each computed: the limits of document 01's examples, and one run for each of its "Shortcuts that have
 -- cost us". Every state that a run ends in is good. Assumes nothing.
-use Prim.Native.Nat.{ℕ, zero, suc, ◌+◌}
+use Prim.Native.Nat.{ℕ, zero, suc}
 use mathlib.Core.Path.{◌≡◌, refl}
-use mathlib.Core.Bool.{Bool, true, false, ◌&&◌}
-use mathlib.Core.List.{List, [], ◌∷◌}
+use mathlib.Core.Bool.{Bool, true}
+use mathlib.Core.List.{List, ◌∷◌}
 use lib.ListN.{length}
-use Rattle.numbers.specs.declared.Key.{Key}
 use Rattle.numbers.specs.Words.{map}
 use Rattle.numbers.specs.Numbers.{controller, counter}
 use Rattle.numbers.specs.Dot.{dot}
@@ -18,11 +17,10 @@ use Rattle.meaning.specs.Clock.{row}
 use Rattle.meaning.specs.Context.{Context, no_context}
 use Rattle.meaning.specs.Object.{value, Version}
 use Rattle.meaning.specs.State.{State, own_base}
-use Rattle.meaning.specs.Message.{Outgoing, Reply}
 use Rattle.meaning.specs.OwnSteps.{start, read, write, delete}
 use Rattle.meaning.specs.Exchange.{take_in, ask, reply, repair}
 use Rattle.meaning.specs.Good.{good_state}
-use Rattle.meaning.proofs.Table.{everything, one_and_two, p7, text, up_to, writes, Story, story, mend}
+use Rattle.meaning.proofs.Table.{everything, one_and_two, p7, text, up_to, writes, story, mend}
 
 -- n writes of point 7, each of which covers all before it; and n that cover none
 abbrev covering : ℕ → State → Answer State

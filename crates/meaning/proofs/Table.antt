@@ -1,18 +1,15 @@
 -- The foreman's examples K1 to K12 as one table, computed with the definitions themselves.
 -- Assumes nothing.
-use Prim.Native.Nat.{ℕ, zero, suc, ◌+◌, ◌^◌}
+use Prim.Native.Nat.{ℕ, ◌^◌}
 use mathlib.Core.Path.{◌≡◌, refl}
-use mathlib.Core.Bool.{Bool, true, false}
-use mathlib.Core.List.{List, [], ◌∷◌}
-use lib.ListN.{length, replicate}
-use Rattle.numbers.specs.declared.Controller.{Controller}
-use Rattle.numbers.specs.declared.Dot.{Dot}
+use mathlib.Core.List.{List, ◌∷◌}
+use lib.ListN.{replicate}
 use Rattle.numbers.specs.declared.Key.{Key}
-use Rattle.numbers.specs.Words.{map, concat_map}
-use Rattle.numbers.specs.Numbers.{controller, counter, is_controller, is_counter, is_point, is_job, each}
+use Rattle.numbers.specs.Words.{map}
+use Rattle.numbers.specs.Numbers.{controller, counter, is_controller, is_counter, is_point, is_job}
 use Rattle.numbers.specs.Dot.{dot}
 use Rattle.numbers.specs.Key.{key, is_key}
-use Rattle.refusal.specs.declared.Refusal.TheVariants.{ContextAhead, NotPeer, RowTooFar, TooManyVersions, OwnListFull}
+use Rattle.refusal.specs.declared.Refusal.TheVariants.{ContextAhead}
 use Rattle.refusal.specs.Refusal.{Answer, refused, accepted, refuse◌when◌else◌, ◌>>=◌}
 use Rattle.block.specs.Check.{sums_from, sums}
 use Rattle.row.specs.declared.Row.{Row}
@@ -21,12 +18,12 @@ use Rattle.row.specs.Row.{bit, has, advance, advanced, add, unite, digits, highe
 use Rattle.meaning.specs.CrewTable.{CrewTable, is_table, holds, share_job, in_some_job}
 use Rattle.meaning.specs.Clock.{row, every_row, in_clock, enter, with_row}
 use Rattle.meaning.specs.Context.{Context, entry, no_context, is_empty, covers, fill_context, strip_context, higher}
-use Rattle.meaning.specs.Object.{Contents, value, deleted, Version, Object, has_dot, fill, strip, survivors, merge, gone}
-use Rattle.meaning.specs.State.{Stored, Listed, State, peers, own_base, dots_of, look_up, local}
-use Rattle.meaning.specs.Message.{Outgoing, Ask, Reply, contents_formed, version_formed, versions_formed, context_formed, point_formed, covers_all, is_none, clock_formed, dots_agree, outgoing_formed, ask_formed, reply_formed}
+use Rattle.meaning.specs.Object.{value, Version, has_dot, fill, strip, survivors, merge, gone}
+use Rattle.meaning.specs.State.{Stored, Listed, State, peers, dots_of, look_up, local}
+use Rattle.meaning.specs.Message.{Outgoing, Reply, contents_formed, version_formed, versions_formed, context_formed, point_formed, covers_all, is_none, clock_formed, dots_agree, outgoing_formed, ask_formed, reply_formed}
 use Rattle.meaning.specs.Settle.{entered, without, put, newly_listed, own_listed, foreign_listed, settled, settle}
-use Rattle.meaning.specs.OwnSteps.{start, ours, shown, read, next_dot, written, context_ahead, Done, put_down, write, delete, strip_pass}
-use Rattle.meaning.specs.Exchange.{both_hold, other_peer, ahead_of_us, row_ahead_of_us, clashes, take_in, ask, lacking, as_stored, Replied, reply, raised, known_to_all, tidied, mended, repair}
+use Rattle.meaning.specs.OwnSteps.{start, ours, shown, read, next_dot, written, context_ahead, put_down, write, delete, strip_pass}
+use Rattle.meaning.specs.Exchange.{both_hold, other_peer, ahead_of_us, row_ahead_of_us, clashes, take_in, ask, lacking, as_stored, reply, raised, known_to_all, tidied, mended, repair}
 use Rattle.meaning.specs.Good.{sized, rows_sound, own_row_whole, points_formed, points_ascend, listed_formed, lists_formed, lists_ascend, lists_apart, jobs_held, versions_covered, versions_in_clock, lists_in_clock, dots_apart, rows_of_peers, marks_of_peers, own_marks_known, own_entries_known, records_needed, clauses, good_state}
 
 -- to unfold this is to compute with every definition

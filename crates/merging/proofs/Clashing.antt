@@ -1,6 +1,6 @@
 -- Where refusal 10 does not apply, a record's versions agree with the message's: what `merge_in` and `goes_with` require. Assumes nothing.
 use mathlib.Core.Path.{◌≡◌, ap}
-use mathlib.Core.Bool.{Bool, true, false, ◌&&◌, ◌||◌, not}
+use mathlib.Core.Bool.{true, false, ◌&&◌, ◌||◌, not}
 use mathlib.Core.List.{List}
 use borrow.Author.Tests.{not-false}
 use Rattle.numbers.specs.Words.{some?, all?}

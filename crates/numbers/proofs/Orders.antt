@@ -2,15 +2,15 @@
 use Prim.Native.Nat.{ℕ, zero, suc, ◌+◌, ◌≤◌, ◌<◌}
 use mathlib.Core.Path.{◌≡◌, refl, sym, ap, ◌∙◌, subst}
 use mathlib.Core.Logic.{◌⊎◌, inl, inr, ◌↔◌, ⊎_elim, ⊎_map}
-use mathlib.Core.Bool.{Bool, true, false, ◌&&◌, ◌||◌, not}
+use mathlib.Core.Bool.{Bool, true, false, ◌&&◌, ◌||◌}
 use mathlib.Core.List.Memᴰ
-use mathlib.Core.List.{List, [], ◌∷◌}
+use mathlib.Core.List.{List, ◌∷◌}
 use native.Mathlib.Omega.{arith}
 use native.Mathlib.Nat.{le_refl}
 use lib.ListN.{length, take}
-use lib.Dec.{leb, ltb, eqb}
-use borrow.Author.Tests.{ltb-true, ltb-false, eqb-true, eqb-false, lt-ltb, le-ltb, eq-eqb, ne_eqb}
-use Rattle.numbers.specs.Words.{if◌then◌else◌, cons_if, keep, all?, ascends?, place, place_all, map, same_pair, pair_before}
+use lib.Dec.{ltb, eqb}
+use borrow.Author.Tests.{ltb-true, ltb-false, eqb-true, lt-ltb, le-ltb, eq-eqb, ne_eqb}
+use Rattle.numbers.specs.Words.{keep, all?, ascends?, place, place_all, map, same_pair, pair_before}
 use Rattle.numbers.proofs.Tests.{by_test, never, and_left, and_right, and_both, or_cases, or_false, or_inl, or_inr, and_false, ◌∈◌, here, there}
 use Rattle.numbers.proofs.Lists.{Tied, in_keep, in_place, all_in, in_all, in_map}
 

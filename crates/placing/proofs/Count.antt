@@ -2,14 +2,14 @@
 use Prim.Native.Nat.{ℕ, ◌+◌, ◌≤◌}
 use mathlib.Core.Path.{◌≡◌, refl, sym, ap, ◌∙◌, subst}
 use mathlib.Core.Bool.{Bool, true, false, not}
-use mathlib.Core.List.{List, [], ◌∷◌, ◌++◌}
+use mathlib.Core.List.{List, ◌∷◌, ◌++◌}
 use native.Mathlib.Omega.{arith}
 use lib.ListN.{length, length-append}
 use lib.Seq.{take-append_seam}
 use Rattle.numbers.specs.declared.Key.{Key}
 use Rattle.numbers.specs.Words.{keep, all?, ascends?, place, fold}
 use Rattle.numbers.specs.Key.{same_key, key_before}
-use Rattle.numbers.proofs.Tests.{by_test, never, and_left, not-true, ◌∈◌, there}
+use Rattle.numbers.proofs.Tests.{by_test, never, and_left, not-true, ◌∈◌}
 use Rattle.numbers.proofs.Lists.{in_left, in_keep, in_all, keep_none, keep_same}
 use Rattle.numbers.proofs.Orders.{Ascends, ascends_first, ascends_rest, keep_ascends, take_ascends, one_place}
 use Rattle.numbers.proofs.Dots.{key_order, same_keys, key_itself, keys_tied, tied_keys, other_way, before_other}

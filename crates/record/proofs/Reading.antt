@@ -1,18 +1,12 @@
 -- What a point block says, read at its places. Assumes nothing.
-use Prim.Native.Nat.{ℕ, suc, ◌+◌, ◌*◌, ◌-◌, ◌^◌, ◌≤◌, ◌<◌}
-use mathlib.Core.Path.{◌≡◌, ap, ◌∙◌, subst}
-use mathlib.Core.List.{List, [], ◌∷◌}
-use mathlib.Core.Logic.{⊎_elim}
+use Prim.Native.Nat.{ℕ, ◌+◌, ◌*◌, ◌-◌, ◌≤◌}
+use mathlib.Core.Path.{◌≡◌, ap, ◌∙◌}
+use mathlib.Core.List.{List}
 use native.Mathlib.Omega.{arith}
-use lib.ListN.{length, get_or}
-use mir.Syntax.{w8}
-use mir.Val.{Fits}
 use Rattle.numbers.specs.declared.Controller.{Controller}
 use Rattle.numbers.specs.Numbers.{Crew, counter}
 use Rattle.numbers.specs.Dot.{dot}
-use Rattle.block.specs.Fields.{number, cut, field, upto}
-use Rattle.block.proofs.Parts.{length_cut}
-use Rattle.block.proofs.Numbers.{Bytes, number_bound, bytes_cut}
+use Rattle.block.specs.Fields.{cut, field, upto}
 use Rattle.block.proofs.Arrays.{upto_at, take_upto}
 use Rattle.meaning.specs.Context.{entry}
 use Rattle.meaning.specs.Object.{Version}

@@ -1,11 +1,10 @@
 -- A block copied to a record's place and renumbered is that record. Assumes nothing.
 use Prim.Native.Nat.{ℕ, ◌+◌, ◌*◌, ◌-◌, ◌≤◌, ◌<◌}
-use mathlib.Core.Path.{◌≡◌, ap, ap₂, sym, ◌∙◌, subst}
+use mathlib.Core.Path.{◌≡◌, ap, ap₂, ◌∙◌}
 use mathlib.Core.List.{List, ◌++◌}
 use native.Mathlib.Omega.{arith}
 use lib.ListN.{length, take, drop}
 use Rattle.block.specs.Fields.{cut, splice, put_at}
-use Rattle.block.specs.Block.{Laid}
 use Rattle.block.proofs.Numbers.{Bytes}
 use Rattle.block.proofs.Parts.{part_is, part_back, splice_same, splice_again}
 use Rattle.meaning.specs.State.{Stored}
@@ -13,7 +12,6 @@ use Rattle.layout.specs.PointBlock.{form_1, encode_stored, decode_stored}
 use Rattle.layout.specs.Image.{image_length, decode}
 use Rattle.layout.proofs.Decoded.{stored_decoded}
 use Rattle.layout.proofs.ImageBack.{StoredSized, stored_length}
-use Rattle.record_edits.specs.Written.{lay_point, point_block}
 use Rattle.image_edits.specs.Edits.{Canonical, with_points}
 use Rattle.image_edits.proofs.Blocks.{image_decoded}
 use Rattle.image_edits.proofs.Moved.{put}

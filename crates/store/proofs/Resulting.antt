@@ -2,13 +2,13 @@
 use Prim.Native.Nat.{ℕ, ◌+◌, ◌≤◌, ◌<◌}
 use mathlib.Core.Path.{◌≡◌, refl, ap, ap₂, sym, ◌∙◌, subst}
 use mathlib.Core.Bool.{Bool, true, false}
-use mathlib.Core.List.{List, [], ◌∷◌, ◌++◌}
+use mathlib.Core.List.{List, ◌∷◌, ◌++◌}
 use native.Mathlib.Omega.{arith}
 use lib.ListN.{length, take, drop, get_or, length-take, length-append, length-drop}
 use lib.Seq.{take_at, drop_at}
 use Rattle.numbers.specs.Words.{if◌then◌else◌, ascends?, place}
 use Rattle.numbers.specs.declared.Key.{Key}
-use Rattle.block.specs.Fields.{splice, put_at, insert_at, remove_at, upto}
+use Rattle.block.specs.Fields.{put_at, insert_at, remove_at, upto}
 use Rattle.block.proofs.Numbers.{Bytes}
 use Rattle.block.proofs.Parts.{splice_length, splice_again}
 use Rattle.block.proofs.Places.{place_here}

@@ -22,7 +22,7 @@ use Rattle.meaning.specs.Object.{Object, fill}
 use Rattle.meaning.specs.State.{stored_before, look_up, local}
 use Rattle.layout.specs.PointBlock.{decode_context}
 use Rattle.layout.specs.Clocks.{decode_clock}
-use Rattle.layout.specs.Image.{image_length, decode, good_image}
+use Rattle.layout.specs.Image.{image_length, decode}
 use Rattle.dots.specs.declared.Found.TheVariants.{At}
 use Rattle.record.proofs.Reading.{context_field}
 use Rattle.image.specs.Places.{PointIn}

@@ -2,7 +2,7 @@
 use Prim.Native.Nat.{◌+◌, ◌≤◌}
 use mathlib.Core.Path.{◌≡◌, ap, ap₂, sym, ◌∙◌, subst}
 use mathlib.Core.Bool.{Bool, true, false, ◌&&◌, not}
-use mathlib.Core.List.{[], ◌∷◌}
+use mathlib.Core.List.{◌∷◌}
 use native.Mathlib.Omega.{arith}
 use borrow.Author.Tests.{le-leb}
 use Rattle.numbers.specs.declared.Controller.{Controller}
@@ -10,7 +10,7 @@ use Rattle.numbers.specs.declared.Counter.{Counter}
 use Rattle.numbers.specs.declared.Key.{Key}
 use Rattle.numbers.specs.Words.{if◌then◌else◌, keep, some?, place}
 use Rattle.numbers.specs.Numbers.{controller, counter, same_controller, Crew}
-use Rattle.numbers.proofs.Tests.{by_test, never}
+use Rattle.numbers.proofs.Tests.{by_test}
 use Rattle.numbers.proofs.Lists.{in_some, place_here}
 use Rattle.numbers.proofs.Controllers.{same_controllers}
 use Rattle.block.proofs.ByIndex.{all_below}

@@ -1,5 +1,5 @@
 -- The outgoing message as it is written: fetched, filled, what is covered dropped, the new version put in, the own entry raised, sealed. Assumes nothing.
-use Prim.Native.Nat.{ℕ, ◌-◌, ◌<◌}
+use Prim.Native.Nat.{ℕ, ◌<◌}
 use mathlib.Core.Path.{◌≡◌, ap, ap₂, sym, ◌∙◌, subst}
 use mathlib.Core.Bool.{true, not}
 use mathlib.Core.List.{List}

@@ -3,7 +3,7 @@ use Prim.Native.Nat.{◌+◌, ◌≤◌}
 use mathlib.Core.Path.{◌≡◌, refl, ap, sym, ◌∙◌, subst}
 use mathlib.Core.Logic.{⊎_elim}
 use mathlib.Core.Bool.{Bool, true, false, ◌&&◌, ◌||◌, not}
-use mathlib.Core.List.{List, [], ◌∷◌}
+use mathlib.Core.List.{List, ◌∷◌}
 use native.Mathlib.Omega.{arith}
 use lib.ListN.{length}
 use lib.Dec.{leb, ltb}
@@ -17,7 +17,7 @@ use Rattle.numbers.proofs.Lists.{in_place, some_in, in_some, Tied}
 use Rattle.numbers.proofs.Orders.{Ascends, place_ascends, no_longer, keep_length}
 use Rattle.numbers.proofs.Dots.{same_keys, key_itself, keys_tied, tied_keys}
 use Rattle.refusal.specs.declared.Refusal.TheVariants.{ContextAhead, RowTooFar, TooManyVersions, TooManyPoints, OwnListFull, CountersUsedUp}
-use Rattle.refusal.specs.Refusal.{Answer, refused, accepted, refuse◌when◌else◌, ◌>>=◌}
+use Rattle.refusal.specs.Refusal.{Answer, accepted, refuse◌when◌else◌, ◌>>=◌}
 use Rattle.meaning.specs.CrewTable.{holds}
 use Rattle.meaning.specs.Clock.{Clock}
 use Rattle.meaning.specs.Context.{Context}

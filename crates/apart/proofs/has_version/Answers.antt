@@ -1,8 +1,7 @@
 -- `apart::has_version` meets its contract. The invariant is `Passing`: the versions before i have other dots (Versions). Assumes nothing.
-use borrow.Author.Rules.{rules}
 use Prim.Native.Nat.{◌-◌}
 use Rattle.block.specs.Fields.{field}
-use Rattle.block.proofs.Passing.{Passing, none_passed}
+use Rattle.block.proofs.Passing.{none_passed}
 use Rattle.apart.proofs.Versions.{another, has_it, not_yet, has_none}
 use native.Mathlib.Omega.{arith}
 use Rattle.apart.proofs.has_version.Goals as goal

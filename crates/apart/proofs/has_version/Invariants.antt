@@ -1,10 +1,8 @@
 -- `apart::has_version` meets its contract. The invariant is `Passing`: the versions before i have other dots (Versions). Assumes nothing.
-use borrow.Author.Rules.{rules}
 use Prim.Native.Nat.{◌-◌}
 use Rattle.block.specs.Fields.{field}
-use Rattle.block.proofs.Passing.{Passing, none_passed}
-use Rattle.apart.proofs.Versions.{another, has_it, not_yet, has_none}
-use native.Mathlib.Omega.{arith}
+use Rattle.block.proofs.Passing.{Passing}
+use Rattle.apart.proofs.Versions.{another}
 use Rattle.apart.proofs.has_version.Given as goal
 
 abbrev pub invariant-loop-i : goal.invariant-loop-i

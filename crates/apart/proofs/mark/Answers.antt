@@ -1,5 +1,4 @@
 -- `apart::mark` meets its contract. Assumes nothing.
-use borrow.Author.Rules.{rules}
 use mathlib.Core.Path.{refl}
 use Rattle.row.specs.Row.{bit}
 use Rattle.apart.specs.Marks.{marked, with_mark}

@@ -1,5 +1,4 @@
 -- `apart::mark_dot` meets its contract. Assumes nothing.
-use borrow.Author.Rules.{rules}
 use mathlib.Core.Path.{sym, ◌∙◌}
 use Rattle.numbers.proofs.Tests.{and_passed, and_first}
 use Rattle.apart.specs.Marks.{first_mark, second_mark}

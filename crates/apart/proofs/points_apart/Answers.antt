@@ -1,11 +1,9 @@
 -- `apart::points_apart` meets its contract. The invariant: each point before j is apart from those before it, and their marks stand. Assumes nothing.
-use borrow.Author.Rules.{rules}
 use Prim.Native.Nat.{◌-◌}
 use mathlib.Core.Path.{refl}
 use borrow.Author.Tests.{not-false}
-use Rattle.block.proofs.Passing.{Passing, none_passed, one_more, one_fails, all_passed, said_no, said_yes}
+use Rattle.block.proofs.Passing.{none_passed, one_more, one_fails, all_passed, said_no, said_yes}
 use Rattle.apart.specs.Apart.{apart_from_earlier}
-use Rattle.apart.specs.Marks.{Noted}
 use native.Mathlib.Omega.{arith}
 use Rattle.apart.proofs.points_apart.Goals as goal
 

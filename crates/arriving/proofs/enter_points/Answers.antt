@@ -1,16 +1,14 @@
 -- `arriving::enter_points` meets its contract. The invariant: the points before j were tried (OfPoints). Assumes nothing.
-use borrow.Author.Rules.{rules}
 use Prim.Native.Nat.{◌-◌, ◌/◌}
-use mathlib.Core.Path.{◌≡◌, ◌∙◌}
-use mathlib.Core.Bool.{true, false}
+use mathlib.Core.Path.{◌∙◌}
+use mathlib.Core.Bool.{false}
 use lib.ListN.{length}
 use Rattle.block.specs.Block.{block_at}
 use Rattle.block.proofs.Numbers.{bytes_of}
-use Rattle.row.specs.Row.{sound}
 use Rattle.layout.specs.PointBlock.{form_1, decode_stored}
 use Rattle.layout.specs.Image.{decode}
 use Rattle.store.proofs.Lent.{good_ascends, good_canonical}
-use Rattle.arriving.proofs.Folding.{Folded, none_folded, folded_all}
+use Rattle.arriving.proofs.Folding.{none_folded, folded_all}
 use Rattle.arriving.proofs.Arrivals.{try_point, tried_points}
 use Rattle.arriving.proofs.OfPoints.{lent_size, lent_few, point_tried}
 use native.Mathlib.Omega.{arith}

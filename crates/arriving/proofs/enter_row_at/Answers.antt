@@ -1,7 +1,6 @@
 -- `arriving::enter_row_at` meets its contract (Rows). Assumes nothing.
-use borrow.Author.Rules.{rules}
 use mathlib.Core.Path.{◌≡◌, refl, ap, sym, subst, ◌∙◌}
-use mathlib.Core.Bool.{Bool, true}
+use mathlib.Core.Bool.{true}
 use Prim.Native.Nat.{◌-◌}
 use Rattle.numbers.proofs.Tests.{never}
 use Rattle.row.specs.declared.Row.{Row}

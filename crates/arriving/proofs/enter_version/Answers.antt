@@ -1,5 +1,4 @@
 -- `arriving::enter_version` meets its contract. Assumes nothing.
-use borrow.Author.Rules.{rules}
 use mathlib.Core.Path.{ap, sym, ◌∙◌}
 use mathlib.Core.Bool.{Bool}
 use Rattle.numbers.specs.Words.{if◌then◌else◌}

@@ -1,5 +1,4 @@
 -- `arriving::local_entry` meets its contract. By the record that was found, or by none (Arrivals). Assumes nothing.
-use borrow.Author.Rules.{rules}
 use mathlib.Core.Path.{sym}
 use Rattle.numbers.specs.Numbers.{counter}
 use Rattle.block.proofs.Numbers.{bytes_of}

@@ -1,6 +1,4 @@
 -- `arriving::try_counter` meets its contract. Assumes nothing.
-use borrow.Author.Rules.{rules}
-use mathlib.Core.Path.{◌≡◌}
 use Rattle.row.specs.declared.Added.TheVariants.{Now, TooFar}
 use Rattle.arriving.proofs.Trying.{says}
 use Rattle.arriving.proofs.try_counter.Goals as goal

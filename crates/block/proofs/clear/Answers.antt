@@ -4,7 +4,7 @@ use mathlib.Core.Path.{sym}
 use native.Mathlib.Omega.{arith}
 use lib.ListN.{replicate, length-replicate, get_or-replicate}
 use lib.Seq.{take_all}
-use Rattle.block.proofs.Copies.{Copied, copied_none, copied_more, copied_all}
+use Rattle.block.proofs.Copies.{copied_none, copied_more, copied_all}
 use Rattle.block.proofs.clear.Goals as goal
 
 pub overflow_sub-n : goal.overflow_sub-n

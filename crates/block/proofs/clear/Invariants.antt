@@ -1,10 +1,7 @@
 -- `block::clear` meets its contract. The invariant is `Copied`, of a list of zeros (Copies). Assumes nothing.
-use Prim.Native.Nat.{ℕ, ◌-◌}
-use mathlib.Core.Path.{sym}
-use native.Mathlib.Omega.{arith}
-use lib.ListN.{replicate, length-replicate, get_or-replicate}
-use lib.Seq.{take_all}
-use Rattle.block.proofs.Copies.{Copied, copied_none, copied_more, copied_all}
+use Prim.Native.Nat.{◌-◌}
+use lib.ListN.{replicate}
+use Rattle.block.proofs.Copies.{Copied}
 use Rattle.block.proofs.clear.Given as goal
 
 abbrev pub invariant-loop-i : goal.invariant-loop-i

@@ -4,7 +4,7 @@ use mathlib.Core.Path.{refl}
 use native.Mathlib.Omega.{arith}
 use lib.ListN.{length}
 use lib.Seq.{take-length}
-use Rattle.block.proofs.Copies.{Copied, copied_none, copied_more, copied_all}
+use Rattle.block.proofs.Copies.{copied_none, copied_more, copied_all}
 use Rattle.block.proofs.copy_in.Goals as goal
 
 pub loop-i-init : goal.loop-i-init

@@ -1,10 +1,7 @@
 -- `block::copy_in` meets its contract. The invariant is `Copied` (Copies). Assumes nothing.
 use Prim.Native.Nat.{◌-◌}
-use mathlib.Core.Path.{refl}
-use native.Mathlib.Omega.{arith}
 use lib.ListN.{length}
-use lib.Seq.{take-length}
-use Rattle.block.proofs.Copies.{Copied, copied_none, copied_more, copied_all}
+use Rattle.block.proofs.Copies.{Copied}
 use Rattle.block.proofs.copy_in.Given as goal
 
 abbrev pub invariant-loop-i : goal.invariant-loop-i

@@ -1,7 +1,6 @@
 -- `block::is_sealed` meets its contract. The two reads and the sums are those that `sealed` names. Assumes nothing.
 use borrow.Author.Tests.{eq-eqb, ne_eqb}
 use Rattle.block.specs.Check.{sealed}
-use borrow.Author.Rules.{rules}
 use Rattle.block.proofs.is_sealed.Goals as goal
 
 pub returns-then-u16_at-s : goal.returns-then-u16_at-s

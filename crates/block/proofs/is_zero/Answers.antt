@@ -1,7 +1,7 @@
 -- `block::is_zero` meets its contract. The invariant of both loops is `ZeroTo`: eight bytes more, or one (Scans). Assumes nothing.
 use Prim.Native.Nat.{◌-◌}
 use native.Mathlib.Omega.{arith}
-use Rattle.block.proofs.Scans.{ZeroTo, zero_none, zero_more, zero_stop, zero_all}
+use Rattle.block.proofs.Scans.{zero_none, zero_more, zero_stop, zero_all}
 use Rattle.block.proofs.is_zero.Goals as goal
 
 pub loop-i-init : goal.loop-i-init

@@ -1,7 +1,6 @@
 -- `block::is_zero` meets its contract. The invariant of both loops is `ZeroTo`: eight bytes more, or one (Scans). Assumes nothing.
 use Prim.Native.Nat.{◌-◌}
-use native.Mathlib.Omega.{arith}
-use Rattle.block.proofs.Scans.{ZeroTo, zero_none, zero_more, zero_stop, zero_all}
+use Rattle.block.proofs.Scans.{ZeroTo}
 use Rattle.block.proofs.is_zero.Given as goal
 
 abbrev pub invariant-loop-i : goal.invariant-loop-i

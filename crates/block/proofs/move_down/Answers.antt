@@ -2,7 +2,7 @@
 use Prim.Native.Nat.{◌-◌}
 use native.Mathlib.Omega.{arith}
 use Rattle.block.proofs.Numbers.{bytes_of}
-use Rattle.block.proofs.Moves.{MovedTo, from_start, next_above, all_to}
+use Rattle.block.proofs.Moves.{from_start, next_above, all_to}
 use Rattle.block.proofs.move_down.Goals as goal
 
 pub loop-k-init : goal.loop-k-init

@@ -1,8 +1,6 @@
 -- `block::move_down` meets its contract. The invariant: what is moved so far (Moves). Assumes nothing.
 use Prim.Native.Nat.{◌-◌}
-use native.Mathlib.Omega.{arith}
-use Rattle.block.proofs.Numbers.{bytes_of}
-use Rattle.block.proofs.Moves.{MovedTo, from_start, next_above, all_to}
+use Rattle.block.proofs.Moves.{MovedTo}
 use Rattle.block.proofs.move_down.Given as goal
 
 abbrev pub invariant-loop-k : goal.invariant-loop-k

@@ -2,7 +2,7 @@
 use Prim.Native.Nat.{◌-◌}
 use native.Mathlib.Omega.{arith}
 use Rattle.block.proofs.Numbers.{bytes_of}
-use Rattle.block.proofs.Moves.{MovedFrom, from_end, next_below, all_from}
+use Rattle.block.proofs.Moves.{from_end, next_below, all_from}
 use Rattle.block.proofs.move_up.Goals as goal
 
 pub loop-k-init : goal.loop-k-init

@@ -1,8 +1,6 @@
 -- `block::move_up` meets its contract. The invariant: what is moved so far (Moves). Assumes nothing.
 use Prim.Native.Nat.{◌-◌}
-use native.Mathlib.Omega.{arith}
-use Rattle.block.proofs.Numbers.{bytes_of}
-use Rattle.block.proofs.Moves.{MovedFrom, from_end, next_below, all_from}
+use Rattle.block.proofs.Moves.{MovedFrom}
 use Rattle.block.proofs.move_up.Given as goal
 
 abbrev pub invariant-loop-k : goal.invariant-loop-k

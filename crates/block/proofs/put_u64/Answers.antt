@@ -1,7 +1,6 @@
 -- `block::put_u64` meets its contract. Two writes of half the width (Halves). Assumes nothing.
 use native.Mathlib.Omega.{arith}
 use Rattle.block.proofs.Halves.{put_halves}
-use borrow.Author.Rules.{rules}
 use Rattle.block.proofs.put_u64.Goals as goal
 
 pub returns : goal.returns

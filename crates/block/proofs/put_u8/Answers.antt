@@ -1,7 +1,6 @@
 -- `block::put_u8` meets its contract. A byte is a field of one. Assumes nothing.
 use native.Mathlib.Omega.{arith}
 use Rattle.block.proofs.Halves.{put_byte}
-use borrow.Author.Rules.{rules}
 use Rattle.block.proofs.put_u8.Goals as goal
 
 pub returns : goal.returns

@@ -1,8 +1,7 @@
 -- `block::same_bytes` meets its contract. The invariant of both loops is `SameTo`: eight bytes more, or one (Scans). Assumes nothing.
 use Prim.Native.Nat.{◌-◌}
 use native.Mathlib.Omega.{arith}
-use lib.ListN.{length}
-use Rattle.block.proofs.Scans.{SameTo, same_none, same_more, same_stop, same_all, other_length}
+use Rattle.block.proofs.Scans.{same_none, same_more, same_stop, same_all, other_length}
 use Rattle.block.proofs.same_bytes.Goals as goal
 
 pub returns-then-a-b : goal.returns-then-a-b

@@ -1,8 +1,7 @@
 -- `block::same_bytes` meets its contract. The invariant of both loops is `SameTo`: eight bytes more, or one (Scans). Assumes nothing.
 use Prim.Native.Nat.{◌-◌}
-use native.Mathlib.Omega.{arith}
 use lib.ListN.{length}
-use Rattle.block.proofs.Scans.{SameTo, same_none, same_more, same_stop, same_all, other_length}
+use Rattle.block.proofs.Scans.{SameTo}
 use Rattle.block.proofs.same_bytes.Given as goal
 
 abbrev pub invariant-loop-i : goal.invariant-loop-i

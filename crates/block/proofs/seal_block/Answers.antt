@@ -1,7 +1,6 @@
 -- `block::seal_block` meets its contract. Two writes, one behind the other, that end the block. Assumes nothing.
 use native.Mathlib.Omega.{arith}
 use Rattle.block.proofs.Summing.{sums_small, seal_put}
-use borrow.Author.Rules.{rules}
 use Rattle.block.proofs.seal_block.Goals as goal
 
 pub overflow_cast-s : goal.overflow_cast-s

@@ -1,10 +1,9 @@
 -- `block::sums_of` meets its contract. The invariant: the plain sums so far, reduced and carried on over the words from i on, give the sums of the block; and bounds that keep both below 2 ^ 32. Assumes nothing.
-use Prim.Native.Nat.{◌*◌, ◌%◌, ◌-◌, ◌≤◌}
-use mathlib.Core.Path.{◌≡◌, refl}
+use Prim.Native.Nat.{◌-◌}
+use mathlib.Core.Path.{refl}
 use native.Mathlib.Omega.{arith}
-use lib.ListN.{take, drop}
-use Rattle.block.specs.Check.{sums_from, sums}
-use Rattle.block.proofs.Summing.{reduced, sums_on, sums_end}
+use Rattle.block.specs.Check.{sums}
+use Rattle.block.proofs.Summing.{sums_on, sums_end}
 use Rattle.block.proofs.sums_of.Goals as goal
 
 pub loop-i-init : goal.loop-i-init

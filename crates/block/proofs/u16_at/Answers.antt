@@ -1,7 +1,6 @@
 -- `block::u16_at` meets its contract. Two reads of half the width (Halves). Assumes nothing.
 use native.Mathlib.Omega.{arith}
 use Rattle.block.proofs.Halves.{read_halves}
-use borrow.Author.Rules.{rules}
 use Rattle.block.proofs.u16_at.Goals as goal
 
 pub returns : goal.returns

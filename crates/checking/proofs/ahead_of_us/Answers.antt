@@ -1,5 +1,4 @@
 -- `checking::ahead_of_us` meets its contract. By a dot, or by the own entry (Ahead). Assumes nothing.
-use borrow.Author.Rules.{rules}
 use Rattle.layout.specs.PointBlock.{form_1, decode_point}
 use Rattle.checking.proofs.Ahead.{by_a_dot, by_the_entry}
 use Rattle.checking.proofs.ahead_of_us.Goals as goal

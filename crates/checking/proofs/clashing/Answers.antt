@@ -1,5 +1,4 @@
 -- `checking::clashing` meets its contract. By a record, or by a list (Otherwise). Assumes nothing.
-use borrow.Author.Rules.{rules}
 use Rattle.block.proofs.Numbers.{bytes_of}
 use Rattle.layout.specs.PointBlock.{form_1, decode_point}
 use Rattle.layout.specs.Image.{decode}

@@ -1,5 +1,4 @@
 -- `checking::judge_outgoing` meets its contract. Row by row (Judging). Assumes nothing.
-use borrow.Author.Rules.{rules}
 use mathlib.Core.Path.{ap, sym, ◌∙◌, subst}
 use borrow.Author.Tests.{not-true, not-false}
 use Rattle.numbers.specs.Numbers.{Crew}

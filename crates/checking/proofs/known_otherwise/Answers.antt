@@ -1,5 +1,4 @@
 -- `checking::known_otherwise` meets its contract. The invariant: none of the message's versions before j clashes (Looking). Assumes nothing.
-use borrow.Author.Rules.{rules}
 use Prim.Native.Nat.{◌-◌}
 use mathlib.Core.Path.{sym, ◌∙◌}
 use mathlib.Core.Bool.{not}
@@ -10,7 +9,7 @@ use Rattle.layout.specs.Image.{decode}
 use Rattle.record.proofs.Reading.{version_at}
 use Rattle.merging.proofs.Slots.{few_slots}
 use Rattle.checking.specs.Points.{clashes_beside}
-use Rattle.checking.proofs.Looking.{Without, found, not_yet, nowhere, versions_read}
+use Rattle.checking.proofs.Looking.{found, not_yet, nowhere, versions_read}
 use native.Mathlib.Omega.{arith}
 use Rattle.checking.proofs.known_otherwise.Goals as goal
 

@@ -1,5 +1,4 @@
 -- `checking::message_formed` meets its contract. Test after test (Judging). Assumes nothing.
-use borrow.Author.Rules.{rules}
 use mathlib.Core.Path.{ap, ◌∙◌}
 use Rattle.numbers.specs.Numbers.{is_controller}
 use Rattle.block.proofs.Passing.{passed, failed, last_test, said_no, said_yes}

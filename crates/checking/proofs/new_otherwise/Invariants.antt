@@ -1,16 +1,10 @@
 -- `checking::new_otherwise` meets its contract. The invariant: none of the message's versions before j has a dot that is stored (Looking). Assumes nothing.
-use borrow.Author.Rules.{rules}
 use Prim.Native.Nat.{◌-◌}
-use mathlib.Core.Path.{ap, sym, ◌∙◌}
-use mathlib.Core.Bool.{not}
-use Rattle.block.proofs.Passing.{none_passed}
 use Rattle.meaning.specs.Object.{Version}
-use Rattle.layout.specs.PointBlock.{form_1, decode_point}
 use Rattle.layout.specs.Image.{decode}
 use Rattle.record.proofs.Reading.{version_at}
 use Rattle.checking.specs.Points.{stored_somewhere}
-use Rattle.checking.proofs.Looking.{Without, found, not_yet, nowhere, versions_read}
-use native.Mathlib.Omega.{arith}
+use Rattle.checking.proofs.Looking.{Without}
 use Rattle.checking.proofs.new_otherwise.Given as goal
 
 abbrev pub invariant-loop-j : goal.invariant-loop-j

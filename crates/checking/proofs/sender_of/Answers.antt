@@ -1,5 +1,4 @@
 -- `checking::sender_of` meets its contract. By the byte at its place (Judging). Assumes nothing.
-use borrow.Author.Rules.{rules}
 use Rattle.checking.proofs.Judging.{sender_is}
 use Rattle.checking.proofs.sender_of.Goals as goal
 

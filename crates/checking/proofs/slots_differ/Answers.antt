@@ -1,5 +1,4 @@
 -- `checking::slots_differ` meets its contract. By their bytes (Clashes). Assumes nothing.
-use borrow.Author.Rules.{rules}
 use Rattle.block.proofs.Numbers.{bytes_of}
 use Rattle.record.proofs.Reading.{version_at}
 use mathlib.Core.Path.{ap, sym, ◌∙◌}

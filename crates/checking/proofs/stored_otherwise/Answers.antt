@@ -1,5 +1,4 @@
 -- `checking::stored_otherwise` meets its contract. By the point's record, or by none (HomeLent). Assumes nothing.
-use borrow.Author.Rules.{rules}
 use mathlib.Core.Path.{subst}
 use Rattle.numbers.specs.declared.Key.{Key}
 use Rattle.block.specs.Fields.{upto}

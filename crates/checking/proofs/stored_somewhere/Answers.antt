@@ -1,5 +1,4 @@
 -- `checking::stored_somewhere` meets its contract: the records are the points of the run of blocks behind the lists (HomeLent). Assumes nothing.
-use borrow.Author.Rules.{rules}
 use native.Mathlib.Omega.{arith}
 use Rattle.block.proofs.Numbers.{bytes_of}
 use Rattle.image.proofs.Counted.{points_few}

@@ -1,5 +1,4 @@
 -- `checking::version_above` meets its contract. The invariant: none of the dots before i is above (Looking). Assumes nothing.
-use borrow.Author.Rules.{rules}
 use Prim.Native.Nat.{◌-◌}
 use mathlib.Core.Path.{ap, sym, ◌∙◌}
 use mathlib.Core.Bool.{not}
@@ -8,7 +7,7 @@ use Rattle.layout.specs.PointBlock.{form_1, decode_point}
 use Rattle.block.proofs.Passing.{none_passed}
 use Rattle.record.proofs.Reading.{version_at}
 use Rattle.checking.specs.Points.{dot_above}
-use Rattle.checking.proofs.Looking.{Without, found, not_yet, nowhere, versions_read}
+use Rattle.checking.proofs.Looking.{found, not_yet, nowhere, versions_read}
 use native.Mathlib.Omega.{arith}
 use Rattle.checking.proofs.version_above.Goals as goal
 

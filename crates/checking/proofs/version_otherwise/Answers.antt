@@ -1,5 +1,4 @@
 -- `checking::version_otherwise` meets its contract. By the version of its dot in its point's record, and where there is none by all records (HomeLent). Assumes nothing.
-use borrow.Author.Rules.{rules}
 use Rattle.block.proofs.Numbers.{bytes_of}
 use Rattle.layout.specs.Image.{decode}
 use Rattle.record.proofs.Reading.{version_at}

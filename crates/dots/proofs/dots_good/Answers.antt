@@ -11,7 +11,7 @@ use Rattle.dots.specs.DotsGood.{dots_good}
 use Rattle.dots.specs.Entries.{entry, entry_good}
 use Rattle.dots.proofs.Laid.{entries_are}
 use Rattle.dots.proofs.Entry.{good_who}
-use Rattle.dots.proofs.Good.{all_good, one_bad, pair_bad, GoodTo, none_yet, one_more}
+use Rattle.dots.proofs.Good.{all_good, one_bad, pair_bad, none_yet, one_more}
 use Rattle.dots.proofs.dots_good.Goals as goal
 
 pub loop-i-init : goal.loop-i-init

@@ -3,7 +3,6 @@ use mathlib.Core.Path.{sym, ap, ◌∙◌}
 use Rattle.numbers.specs.Dot.{dot}
 use Rattle.meaning.specs.State.{Listed}
 use Rattle.dots.proofs.Laid.{entry_fields}
-use borrow.Author.Rules.{rules}
 use Rattle.dots.proofs.entry_dot.Goals as goal
 
 pub returns : goal.returns

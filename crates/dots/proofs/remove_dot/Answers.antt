@@ -3,7 +3,6 @@ use Prim.Native.Nat.{◌-◌}
 use native.Mathlib.Omega.{arith}
 use Rattle.block.proofs.Numbers.{bytes_of}
 use Rattle.dots.proofs.Edits.{count_is, few_dots, dot_removed}
-use borrow.Author.Rules.{rules}
 use Rattle.dots.proofs.remove_dot.Goals as goal
 
 pub overflow_mul-at : goal.overflow_mul-at

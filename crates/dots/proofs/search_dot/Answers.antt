@@ -7,9 +7,7 @@ use borrow.Author.Tests.{not-true, not-false}
 use Rattle.numbers.specs.declared.Dot.{Dot}
 use Rattle.numbers.specs.Dot.{dot_before}
 use Rattle.numbers.proofs.Dots.{dot_order}
-use Rattle.block.specs.Fields.{field}
-use Rattle.block.proofs.Search.{Between, nothing_yet, upper_half, lower_half}
-use Rattle.dots.specs.Entries.{entry}
+use Rattle.block.proofs.Search.{nothing_yet, upper_half, lower_half}
 use Rattle.dots.proofs.Search.{all_pairs, found_at, found_before}
 use Rattle.dots.proofs.search_dot.Goals as goal
 

@@ -2,7 +2,6 @@
 use Prim.Native.Nat.{◌+◌, ◌*◌, ◌-◌}
 use native.Mathlib.Omega.{arith}
 use Rattle.dots.proofs.Edits.{entry_put}
-use borrow.Author.Rules.{rules}
 use Rattle.dots.proofs.write_entry.Goals as goal
 
 pub returns : goal.returns

@@ -7,7 +7,6 @@ use Rattle.numbers.specs.Numbers.{controller}
 use Rattle.layout.specs.Image.{decode}
 use Rattle.layout.specs.Calls.{After}
 use Rattle.exchange.proofs.Asking.{below_range, above_range, no_peer, asks, ask_is}
-use borrow.Author.Rules.{rules}
 use Rattle.exchange.proofs.ask_at.Goals as goal
 
 pub returns-then-to-lt1 : goal.returns-then-to-lt1

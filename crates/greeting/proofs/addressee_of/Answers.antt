@@ -2,7 +2,6 @@
 use mathlib.Core.Path.{ap}
 use Rattle.numbers.specs.Numbers.{controller}
 use Rattle.layout.specs.Messages.{decode_ask}
-use borrow.Author.Rules.{rules}
 use Rattle.greeting.proofs.addressee_of.Goals as goal
 
 pub returns : goal.returns

@@ -1,9 +1,9 @@
 -- `greeting::ask_formed` meets its contract. Test by test (Formed). Assumes nothing.
 use Prim.Native.Nat.{◌-◌}
-use mathlib.Core.Path.{ap, ap₂, sym, ◌∙◌, subst}
+use mathlib.Core.Path.{ap, ap₂, sym, ◌∙◌}
 use borrow.Author.Tests.{not-true, not-false}
 use Rattle.numbers.specs.declared.Controller.{Controller}
-use Rattle.numbers.specs.Numbers.{is_controller, Crew}
+use Rattle.numbers.specs.Numbers.{is_controller}
 use Rattle.numbers.proofs.Lists.{passed, ◌and_also◌}
 use Rattle.numbers.proofs.Controllers.{crew_is}
 use Rattle.meaning.specs.Message.{clock_formed}

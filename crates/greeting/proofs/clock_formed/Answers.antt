@@ -5,7 +5,6 @@ use borrow.Author.Tests.{not-true, not-false}
 use Rattle.numbers.proofs.Lists.{passed, ◌and_also◌}
 use Rattle.row.specs.declared.Row.{Row}
 use Rattle.greeting.proofs.Formed.{ill_clock, by_bits}
-use borrow.Author.Rules.{rules}
 use Rattle.greeting.proofs.clock_formed.Goals as goal
 
 pub returns-then-not-rows_sound : goal.returns-then-not-rows_sound

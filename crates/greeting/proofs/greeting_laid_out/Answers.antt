@@ -6,7 +6,6 @@ use Rattle.numbers.proofs.Lists.{passed, ◌and_also◌}
 use Rattle.numbers.proofs.Tests.{read_is, read_is_not}
 use Rattle.block.proofs.Numbers.{bytes_of}
 use Rattle.greeting.proofs.Laid.{not_laid_out, laid_out}
-use borrow.Author.Rules.{rules}
 use Rattle.greeting.proofs.greeting_laid_out.Goals as goal
 
 pub returns-then-u8_at-kind : goal.returns-then-u8_at-kind

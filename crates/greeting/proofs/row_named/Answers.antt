@@ -4,7 +4,6 @@ use mathlib.Core.Bool.{Bool, ◌||◌}
 use Rattle.meaning.specs.Clock.{row}
 use Rattle.meaning.specs.Message.{is_none}
 use Rattle.layout.specs.Clocks.{decode_clock}
-use borrow.Author.Rules.{rules}
 use Rattle.greeting.proofs.row_named.Goals as goal
 
 pub returns-then-in_some_job : goal.returns-then-in_some_job

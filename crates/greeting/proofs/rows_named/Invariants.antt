@@ -1,14 +1,11 @@
 -- `greeting::rows_named` meets its contract. The invariant: the rows before n pass (Rounds). Assumes nothing.
-use borrow.Author.Rules.{rules}
 use Prim.Native.Nat.{◌-◌}
-use mathlib.Core.Path.{sym, ◌∙◌}
 use mathlib.Core.Bool.{◌||◌}
-use borrow.Author.Tests.{not-true, not-false}
 use Rattle.meaning.specs.CrewTable.{in_some_job}
 use Rattle.meaning.specs.Clock.{row}
 use Rattle.meaning.specs.Message.{is_none}
 use Rattle.layout.specs.Clocks.{decode_clock}
-use Rattle.head.proofs.Rounds.{PassedTo, none_yet, one_more, all_done, one_fails}
+use Rattle.head.proofs.Rounds.{PassedTo}
 use Rattle.greeting.proofs.rows_named.Given as goal
 
 abbrev pub invariant-loop-n : goal.invariant-loop-n

@@ -1,9 +1,7 @@
 -- `greeting::write_greeting` meets its contract. Store by store (Stores). Assumes nothing.
 use Prim.Native.Nat.{◌-◌}
-use native.Mathlib.Omega.{arith}
 use Rattle.block.proofs.Numbers.{bytes_of}
 use Rattle.greeting.proofs.Stores.{greeting_is}
-use borrow.Author.Rules.{rules}
 use Rattle.greeting.proofs.write_greeting.Goals as goal
 
 pub returns : goal.returns

@@ -1,10 +1,8 @@
 -- `head::marks_allowed` meets its contract. The invariant: the rows of the watermark before m pass (Rounds). Assumes nothing.
-use borrow.Author.Rules.{rules}
 use Prim.Native.Nat.{◌-◌}
 use mathlib.Core.Path.{sym, ◌∙◌}
 use borrow.Author.Tests.{not-true, not-false}
-use Rattle.head.proofs.Rounds.{PassedTo, none_yet, one_more, all_done, one_fails}
-use Rattle.layout.specs.Image.{decode_marks}
+use Rattle.head.proofs.Rounds.{none_yet, one_more, all_done, one_fails}
 use Rattle.head.specs.HeadParts.{marks_row_allowed, marks_allowed}
 use Rattle.head.proofs.marks_allowed.Goals as goal
 

@@ -1,14 +1,12 @@
 -- `head::marks_row_allowed` meets its contract. The invariant: the marks before n pass (Rounds, Marks). Assumes nothing.
-use borrow.Author.Rules.{rules}
 use Prim.Native.Nat.{◌-◌}
 use mathlib.Core.Path.{sym, ◌∙◌}
 use native.Mathlib.Omega.{arith}
 use borrow.Author.Tests.{not-true, not-false}
 use Rattle.numbers.specs.Numbers.{controller}
-use Rattle.head.proofs.Rounds.{PassedTo, none_yet, one_more, all_done, one_fails}
-use mathlib.Core.Logic.{⊎_elim}
+use Rattle.head.proofs.Rounds.{none_yet, one_more, all_done, one_fails}
 use Rattle.layout.specs.Image.{decode_marks}
-use Rattle.head.specs.HeadParts.{mark_allowed, marks_row_allowed}
+use Rattle.head.specs.HeadParts.{marks_row_allowed}
 use Rattle.head.proofs.Marks.{mark_zero, mark_of_peers, mark_not_of, mark_not_about}
 use Rattle.head.proofs.marks_row_allowed.Goals as goal
 use Rattle.head.proofs.marks_row_allowed.Goals.{then-mark_at-ne0+else-not-peers+else-not-peers-2, else-mark_at-ne0}

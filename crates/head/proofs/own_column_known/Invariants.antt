@@ -1,14 +1,9 @@
 -- `head::own_column_known` meets its contract. The invariant: the marks of those before m pass (Rounds). Assumes nothing.
-use borrow.Author.Rules.{rules}
 use Prim.Native.Nat.{◌-◌}
-use native.Mathlib.Omega.{arith}
-use borrow.Author.Tests.{le-leb, lt-leb}
-use Rattle.numbers.specs.Numbers.{controller}
-use Rattle.head.proofs.Rounds.{PassedTo, none_yet, one_more, all_done, one_fails}
+use Rattle.head.proofs.Rounds.{PassedTo}
 use lib.Dec.{leb}
 use Rattle.meaning.specs.State.{mark}
 use Rattle.layout.specs.Image.{decode_marks}
-use Rattle.head.specs.HeadParts.{own_column}
 use Rattle.head.proofs.own_column_known.Given as goal
 
 abbrev pub invariant-loop-m : goal.invariant-loop-m

@@ -2,7 +2,6 @@
 use mathlib.Core.Path.{ap}
 use Rattle.numbers.specs.Numbers.{controller}
 use Rattle.layout.specs.Image.{decode_head}
-use borrow.Author.Rules.{rules}
 use Rattle.head.proofs.own_of.Goals as goal
 
 pub returns : goal.returns

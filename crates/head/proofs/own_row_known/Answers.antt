@@ -1,12 +1,10 @@
 -- `head::own_row_known` meets its contract. The invariant: the marks before n pass (Rounds). Assumes nothing.
-use borrow.Author.Rules.{rules}
 use Prim.Native.Nat.{◌-◌}
 use mathlib.Core.Path.{ap}
 use native.Mathlib.Omega.{arith}
 use borrow.Author.Tests.{le-leb, lt-leb}
 use Rattle.numbers.specs.Numbers.{controller}
-use Rattle.head.proofs.Rounds.{PassedTo, none_yet, one_more, all_done, one_fails}
-use lib.Dec.{leb}
+use Rattle.head.proofs.Rounds.{none_yet, one_more, all_done, one_fails}
 use Rattle.row.specs.declared.Row.{Row}
 use Rattle.meaning.specs.Clock.{row}
 use Rattle.meaning.specs.State.{mark}

@@ -1,6 +1,5 @@
 -- `head::peers` meets its contract. Assumes nothing.
 use borrow.Author.Tests.{eq-eqb, ne_eqb}
-use borrow.Author.Rules.{rules}
 use Rattle.head.proofs.peers.Goals as goal
 
 pub returns-then-n-m : goal.returns-then-n-m

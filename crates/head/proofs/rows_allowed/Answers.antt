@@ -1,16 +1,14 @@
 -- `head::rows_allowed` meets its contract. The invariant: the rows before n pass (Rounds). Assumes nothing.
-use borrow.Author.Rules.{rules}
 use Prim.Native.Nat.{◌-◌}
 use mathlib.Core.Path.{sym, ap, ◌∙◌}
 use borrow.Author.Tests.{not-true, not-false}
 use Rattle.numbers.specs.Numbers.{controller}
-use Rattle.head.proofs.Rounds.{PassedTo, none_yet, one_more, all_done, one_fails}
-use mathlib.Core.Logic.{⊎_elim}
+use Rattle.head.proofs.Rounds.{none_yet, one_more, all_done, one_fails}
 use Rattle.numbers.proofs.Tests.{or_inl, or_inr, or_neither}
 use Rattle.meaning.specs.Clock.{row}
 use Rattle.meaning.specs.Message.{is_none}
 use Rattle.layout.specs.Clocks.{decode_clock}
-use Rattle.head.specs.HeadParts.{peers_by, row_allowed, rows_allowed}
+use Rattle.head.specs.HeadParts.{peers_by, rows_allowed}
 use Rattle.head.proofs.rows_allowed.Goals as goal
 use Rattle.head.proofs.rows_allowed.Goals.{then-not-row_none+else-not-peers, else-not-row_none}
 

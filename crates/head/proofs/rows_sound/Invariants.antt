@@ -1,10 +1,7 @@
 -- `head::rows_sound` meets its contract. The invariant: the rows before n pass (Rounds). Assumes nothing.
-use borrow.Author.Rules.{rules}
 use Prim.Native.Nat.{◌-◌}
-use mathlib.Core.Path.{sym, ap, ◌∙◌}
-use borrow.Author.Tests.{not-true, not-false}
-use Rattle.head.proofs.Rounds.{PassedTo, none_yet, one_more, all_done, one_fails}
-use Rattle.meaning.specs.Clock.{row, every_row}
+use Rattle.head.proofs.Rounds.{PassedTo}
+use Rattle.meaning.specs.Clock.{row}
 use Rattle.layout.specs.Clocks.{decode_clock}
 use Rattle.head.specs.HeadParts.{row_good}
 use Rattle.head.proofs.rows_sound.Given as goal

@@ -3,8 +3,6 @@ use Prim.Native.Nat.{◌-◌}
 use native.Mathlib.Omega.{arith}
 use Rattle.block.proofs.Numbers.{bytes_of}
 use Rattle.head.proofs.Edits.{mark_is_put}
-use borrow.Author.Rules.{rules}
-use borrow.Author.Rules.{rules}
 use Rattle.head.proofs.set_mark.Goals as goal
 
 pub returns : goal.returns

@@ -1,14 +1,12 @@
 -- `head::shares_job` meets its contract. The invariant: no job before j is held by both (Rounds). Assumes nothing.
-use borrow.Author.Rules.{rules}
 use Prim.Native.Nat.{◌-◌}
 use mathlib.Core.Path.{◌≡◌, sym, ◌∙◌}
 use mathlib.Core.Bool.{◌&&◌, false}
-use mathlib.Core.Logic.{⊎_elim}
 use native.Mathlib.Omega.{arith}
 use borrow.Author.Count.{below_more}
 use Rattle.numbers.proofs.Tests.{and_both, and_first, and_second}
 use Rattle.meaning.specs.CrewTable.{holds, share_job}
-use Rattle.head.proofs.Rounds.{NoneTo, some_job, no_job}
+use Rattle.head.proofs.Rounds.{some_job, no_job}
 use Rattle.head.proofs.shares_job.Goals as goal
 use Rattle.head.proofs.shares_job.Goals.{then-holds+else-holds-2, else-holds}
 

@@ -1,11 +1,10 @@
 -- `hearing::jobs_held` meets its contract. The invariant: the jobs of the points before i are held (Points). Assumes nothing.
-use borrow.Author.Rules.{rules}
 use Prim.Native.Nat.{◌-◌, ◌/◌}
 use lib.ListN.{length}
 use borrow.Author.Tests.{not-true, not-false}
 use Rattle.numbers.specs.declared.Key.{Key}
 use Rattle.block.proofs.Numbers.{bytes_of}
-use Rattle.block.proofs.Passing.{Passing, none_passed, one_more}
+use Rattle.block.proofs.Passing.{none_passed, one_more}
 use Rattle.meaning.specs.Object.{Object}
 use Rattle.meaning.specs.State.{Stored}
 use Rattle.meaning.specs.Exchange.{both_hold}

@@ -15,7 +15,7 @@ use Rattle.layout.specs.Image.{decode}
 use Rattle.store.proofs.Lent.{own_is_crew}
 use Rattle.arriving.specs.Sent.{points_in}
 use Rattle.arriving.proofs.OfPoints.{lent_size, lent_few}
-use Rattle.checking.proofs.Looking.{Without, found, not_yet, nowhere}
+use Rattle.checking.proofs.Looking.{found, not_yet, nowhere}
 use Rattle.replying.proofs.Judging.{own_lent}
 use Rattle.apart.specs.Apart.{point_of}
 use Rattle.hearing.proofs.Points.{point_tested, above_lent}

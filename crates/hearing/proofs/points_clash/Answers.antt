@@ -1,5 +1,4 @@
 -- `hearing::points_clash` meets its contract. The invariant: none of the points before i clashes (checking's Looking). Assumes nothing.
-use borrow.Author.Rules.{rules}
 use Prim.Native.Nat.{◌-◌, ◌/◌}
 use mathlib.Core.Path.{refl}
 use mathlib.Core.Bool.{not}
@@ -14,7 +13,7 @@ use Rattle.meaning.specs.Exchange.{clashes}
 use Rattle.layout.specs.Image.{decode}
 use Rattle.arriving.specs.Sent.{points_in}
 use Rattle.arriving.proofs.OfPoints.{lent_size}
-use Rattle.checking.proofs.Looking.{Without, found, not_yet, nowhere}
+use Rattle.checking.proofs.Looking.{found, not_yet, nowhere}
 use Rattle.apart.specs.Apart.{point_of}
 use Rattle.hearing.proofs.Points.{point_tested, lent_laid}
 use native.Mathlib.Omega.{arith}

@@ -1,23 +1,12 @@
 -- `hearing::points_clash` meets its contract. The invariant: none of the points before i clashes (checking's Looking). Assumes nothing.
-use borrow.Author.Rules.{rules}
 use Prim.Native.Nat.{◌-◌, ◌/◌}
-use mathlib.Core.Path.{refl}
-use mathlib.Core.Bool.{not}
 use lib.ListN.{length}
-use Rattle.numbers.specs.declared.Key.{Key}
 use Rattle.numbers.specs.Words.{some?}
-use Rattle.block.proofs.Numbers.{bytes_of}
-use Rattle.block.proofs.Passing.{none_passed}
-use Rattle.meaning.specs.Object.{Object}
 use Rattle.meaning.specs.State.{Stored}
 use Rattle.meaning.specs.Exchange.{clashes}
 use Rattle.layout.specs.Image.{decode}
-use Rattle.arriving.specs.Sent.{points_in}
-use Rattle.arriving.proofs.OfPoints.{lent_size}
-use Rattle.checking.proofs.Looking.{Without, found, not_yet, nowhere}
+use Rattle.checking.proofs.Looking.{Without}
 use Rattle.apart.specs.Apart.{point_of}
-use Rattle.hearing.proofs.Points.{point_tested, lent_laid}
-use native.Mathlib.Omega.{arith}
 use Rattle.hearing.proofs.points_clash.Given as goal
 
 abbrev pub invariant-loop-i : goal.invariant-loop-i

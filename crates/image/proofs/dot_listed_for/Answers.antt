@@ -1,6 +1,5 @@
 use native.Mathlib.Omega.{arith}
 use Rattle.image.proofs.ListedFor.{found_none, found_within, found_there}
-use borrow.Author.Rules.{rules}
 use Rattle.image.proofs.dot_listed_for.Goals as goal
 
 pub entry_key-there-requires : goal.entry_key-there-requires

@@ -2,7 +2,6 @@ use mathlib.Core.Path.{◌∙◌}
 use Rattle.numbers.proofs.Lists.{passed, ◌and_also◌}
 use Rattle.block.proofs.Passing.{said_no, said_yes}
 use Rattle.image.proofs.Whole.{not_apart, apart_last}
-use borrow.Author.Rules.{rules}
 use Rattle.image.proofs.dots_apart.Goals as goal
 
 pub returns-then-not-records_apart : goal.returns-then-not-records_apart

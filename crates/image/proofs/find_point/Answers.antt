@@ -11,7 +11,7 @@ use Rattle.block.proofs.ByIndex.{upto_ascends}
 use Rattle.block.proofs.Search.{nothing_yet, upper_half, lower_half}
 use Rattle.meaning.specs.State.{stored_before}
 use Rattle.image.specs.Apart.{point_at}
-use Rattle.image.proofs.Finding.{Halves, key_there, point_found, point_before}
+use Rattle.image.proofs.Finding.{key_there, point_found, point_before}
 use Rattle.image.proofs.find_point.Goals as goal
 
 pub loop-low-init : goal.loop-low-init

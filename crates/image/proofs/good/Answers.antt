@@ -2,7 +2,6 @@ use mathlib.Core.Path.{◌∙◌}
 use Rattle.block.proofs.Numbers.{bytes_of}
 use Rattle.block.proofs.Passing.{said_no, said_yes}
 use Rattle.image.proofs.Whole.{other_length, not_laid, whole_good}
-use borrow.Author.Rules.{rules}
 use Rattle.image.proofs.good.Goals as goal
 
 pub returns-then-image-ne34304 : goal.returns-then-image-ne34304

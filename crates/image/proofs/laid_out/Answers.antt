@@ -4,7 +4,6 @@ use Rattle.numbers.proofs.Lists.{passed, ◌and_also◌}
 use Rattle.block.proofs.Passing.{said_no, said_yes}
 use Rattle.image.proofs.Counted.{stored_few}
 use Rattle.image.proofs.Whole.{not_laid_out, laid_out, head_part, own_part, foreign_part, points_part, rest_part}
-use borrow.Author.Rules.{rules}
 use Rattle.image.proofs.laid_out.Goals as goal
 
 pub returns-then-not-head_laid_out : goal.returns-then-not-head_laid_out

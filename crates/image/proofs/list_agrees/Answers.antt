@@ -1,8 +1,7 @@
 use native.Mathlib.Omega.{arith}
 use Prim.Native.Nat.{◌-◌}
-use Rattle.block.proofs.Passing.{Passing, none_passed, one_more, one_fails, all_passed, said_no, said_yes}
+use Rattle.block.proofs.Passing.{none_passed, one_more, one_fails, all_passed, said_no, said_yes}
 use Rattle.layout.specs.Image.{decode_dots}
-use Rattle.image.specs.Apart.{listed_for, point_at}
 use Rattle.image.proofs.Loops.{few_part}
 use Rattle.image.proofs.ListedFor.{listed_part}
 use Rattle.image.proofs.list_agrees.Goals as goal

@@ -8,7 +8,6 @@ use Rattle.block.proofs.Passing.{said_no, said_yes}
 use Rattle.layout.specs.Image.{decode_head}
 use Rattle.image.proofs.Counted.{stored_few}
 use Rattle.image.proofs.Whole.{own_few, foreign_few, points_few, not_good, good_last, apart_is, list_good, records_are, ascend_are, own_crew, own_list_ascends, foreign_list_ascends}
-use borrow.Author.Rules.{rules}
 use Rattle.image.proofs.parts_good.Goals as goal
 
 pub returns-then-not-head_good : goal.returns-then-not-head_good

@@ -1,6 +1,6 @@
 use native.Mathlib.Omega.{arith}
 use Prim.Native.Nat.{◌+◌, ◌-◌}
-use Rattle.block.proofs.Passing.{Passing, none_passed, one_more, one_fails, all_passed, said_no, said_yes}
+use Rattle.block.proofs.Passing.{none_passed, one_more, one_fails, all_passed, said_no, said_yes}
 use Rattle.image.specs.Parts.{stored_laid_out}
 use Rattle.image.proofs.Loops.{laid_out_part}
 use Rattle.image.proofs.points_laid_out.Goals as goal

@@ -1,9 +1,7 @@
 use native.Mathlib.Omega.{arith}
-use Prim.Native.Nat.{◌+◌, ◌-◌}
-use Rattle.block.proofs.Passing.{Passing, none_passed, one_more, one_fails, all_passed, said_no, said_yes}
-use Rattle.layout.specs.Clocks.{decode_clock}
+use Prim.Native.Nat.{◌-◌}
+use Rattle.block.proofs.Passing.{none_passed, one_more, one_fails, all_passed, said_no, said_yes}
 use Rattle.record.specs.RecordGood.{record_good}
-use Rattle.image.specs.Apart.{point_at}
 use Rattle.image.proofs.Loops.{good_part, few_part}
 use Rattle.image.proofs.records_good.Goals as goal
 

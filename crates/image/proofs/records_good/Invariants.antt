@@ -1,10 +1,8 @@
-use native.Mathlib.Omega.{arith}
-use Prim.Native.Nat.{◌+◌, ◌-◌}
-use Rattle.block.proofs.Passing.{Passing, none_passed, one_more, one_fails, all_passed, said_no, said_yes}
+use Prim.Native.Nat.{◌-◌}
+use Rattle.block.proofs.Passing.{Passing}
 use Rattle.layout.specs.Clocks.{decode_clock}
 use Rattle.record.specs.RecordGood.{record_good}
 use Rattle.image.specs.Apart.{point_at}
-use Rattle.image.proofs.Loops.{good_part, few_part}
 use Rattle.image.proofs.records_good.Given as goal
 
 abbrev pub invariant-loop-i : goal.invariant-loop-i

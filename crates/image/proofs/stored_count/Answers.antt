@@ -1,6 +1,6 @@
 use native.Mathlib.Omega.{arith}
-use Prim.Native.Nat.{◌≤◌, ◌-◌}
-use Rattle.image.proofs.Counted.{Kinds, no_kinds, more_kinds, ends_here, all_stored}
+use Prim.Native.Nat.{◌-◌}
+use Rattle.image.proofs.Counted.{no_kinds, more_kinds, ends_here, all_stored}
 use Rattle.image.proofs.stored_count.Goals as goal
 
 pub loop-n-init : goal.loop-n-init

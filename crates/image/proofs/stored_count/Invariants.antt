@@ -1,6 +1,5 @@
-use native.Mathlib.Omega.{arith}
 use Prim.Native.Nat.{◌≤◌, ◌-◌}
-use Rattle.image.proofs.Counted.{Kinds, no_kinds, more_kinds, ends_here, all_stored}
+use Rattle.image.proofs.Counted.{Kinds}
 use Rattle.image.proofs.stored_count.Given as goal
 
 abbrev pub invariant-loop-n : goal.invariant-loop-n

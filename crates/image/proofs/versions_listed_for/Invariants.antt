@@ -1,11 +1,9 @@
-use native.Mathlib.Omega.{arith}
 use Prim.Native.Nat.{◌-◌}
 use mathlib.Core.Path.{◌≡◌}
 use Rattle.block.specs.Fields.{field}
-use Rattle.block.proofs.Passing.{Passing, none_passed, one_more, one_fails, all_passed, said_no, said_yes}
-use Rattle.layout.specs.PointBlock.{form_1, decode_point}
+use Rattle.block.proofs.Passing.{Passing}
 use Rattle.layout.specs.Image.{decode_dots}
-use Rattle.image.proofs.ListedFor.{slot_listed, slot_is, listed_all}
+use Rattle.image.proofs.ListedFor.{slot_listed}
 use Rattle.image.proofs.versions_listed_for.Given as goal
 
 abbrev pub invariant-loop-i : goal.invariant-loop-i

@@ -5,7 +5,7 @@ use Rattle.block.proofs.Numbers.{bytes_of}
 use Rattle.layout.specs.Image.{decode}
 use Rattle.image_edits.proofs.Blocks.{image_decoded, canonical_blocks}
 use mathlib.Core.Path.{refl}
-use Rattle.image_edits.proofs.Closing.{Closing, closing_none, closing_size, closing_laid, closing_more, closed}
+use Rattle.image_edits.proofs.Closing.{closing_none, closing_size, closing_laid, closing_more, closed}
 use Rattle.image_edits.proofs.close_place.Goals as goal
 
 pub loop-j-init : goal.loop-j-init

@@ -5,7 +5,7 @@ use Rattle.block.proofs.Numbers.{bytes_of}
 use Rattle.layout.specs.Image.{decode}
 use Rattle.image_edits.proofs.Blocks.{image_decoded, canonical_blocks}
 use mathlib.Core.Path.{refl}
-use Rattle.image_edits.proofs.Opening.{Opening, opening_none, opening_size, opening_laid, opening_more, opened}
+use Rattle.image_edits.proofs.Opening.{opening_none, opening_size, opening_laid, opening_more, opened}
 use borrow.Author.Rules.{rules}
 use Rattle.image_edits.proofs.open_place.Goals as goal
 

@@ -1,12 +1,7 @@
 -- `image::open_place` meets its contract. The invariant: which blocks stand one further up (Opening). Assumes nothing.
 use Prim.Native.Nat.{◌-◌}
-use native.Mathlib.Omega.{arith}
-use Rattle.block.proofs.Numbers.{bytes_of}
 use Rattle.layout.specs.Image.{decode}
-use Rattle.image_edits.proofs.Blocks.{image_decoded, canonical_blocks}
-use mathlib.Core.Path.{refl}
-use Rattle.image_edits.proofs.Opening.{Opening, opening_none, opening_size, opening_laid, opening_more, opened}
-use borrow.Author.Rules.{rules}
+use Rattle.image_edits.proofs.Opening.{Opening}
 use Rattle.image_edits.proofs.open_place.Given as goal
 
 abbrev pub invariant-loop-to : goal.invariant-loop-to

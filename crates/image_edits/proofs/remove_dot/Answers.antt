@@ -6,7 +6,6 @@ use Rattle.block.proofs.Numbers.{bytes_of}
 use mathlib.Core.Path.{ap}
 use lib.ListN.{length}
 use Rattle.image_edits.proofs.Lifting.{list_part_laid, list_part_says, remove_done}
-use borrow.Author.Rules.{rules}
 use Rattle.image_edits.proofs.remove_dot.Goals as goal
 
 pub remove_dot-requires : goal.remove_dot-requires

@@ -4,7 +4,6 @@ use mathlib.Core.Path.{refl}
 use native.Mathlib.Omega.{arith}
 use Rattle.block.proofs.Numbers.{bytes_of}
 use Rattle.image_edits.proofs.Lifting.{head_part_laid, mark_done}
-use borrow.Author.Rules.{rules}
 use Rattle.image_edits.proofs.set_mark.Goals as goal
 
 pub set_mark-requires : goal.set_mark-requires

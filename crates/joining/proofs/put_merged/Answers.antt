@@ -1,5 +1,4 @@
 -- `joining::put_merged` meets its contract. By the record that was found, or by none (Putting). Assumes nothing.
-use borrow.Author.Rules.{rules}
 use mathlib.Core.Path.{ap, subst, ◌∙◌}
 use Rattle.numbers.specs.declared.Key.{Key}
 use Rattle.numbers.proofs.Tests.{not-true}

@@ -7,7 +7,7 @@ use Rattle.layout.specs.Clocks.{decode_clock}
 use Rattle.layout.specs.Image.{decode}
 use Rattle.image_edits.proofs.Blocks.{image_decoded}
 use Rattle.arriving.proofs.Rows.{decoded_eight}
-use Rattle.joining.proofs.RowsSet.{Set, row_set, rows_set}
+use Rattle.joining.proofs.RowsSet.{row_set, rows_set}
 use native.Mathlib.Omega.{arith}
 use Rattle.joining.proofs.set_rows.Goals as goal
 

@@ -1,14 +1,8 @@
 -- `joining::set_rows` meets its contract. The invariant: the rows below n are set (RowsSet). Assumes nothing.
-use borrow.Author.Rules.{rules}
 use Prim.Native.Nat.{◌-◌}
-use mathlib.Core.Path.{refl}
-use Rattle.block.proofs.Numbers.{bytes_of}
 use Rattle.layout.specs.Clocks.{decode_clock}
 use Rattle.layout.specs.Image.{decode}
-use Rattle.image_edits.proofs.Blocks.{image_decoded}
-use Rattle.arriving.proofs.Rows.{decoded_eight}
-use Rattle.joining.proofs.RowsSet.{Set, row_set, rows_set}
-use native.Mathlib.Omega.{arith}
+use Rattle.joining.proofs.RowsSet.{Set}
 use Rattle.joining.proofs.set_rows.Given as goal
 
 abbrev pub invariant-loop-n : goal.invariant-loop-n

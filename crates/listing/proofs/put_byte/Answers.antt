@@ -1,6 +1,5 @@
 -- `listing::put_byte` meets its contract. Assumes nothing.
 use native.Mathlib.Omega.{arith}
-use borrow.Author.Rules.{rules}
 use Rattle.listing.proofs.Putting.{byte_put}
 use Rattle.listing.proofs.put_byte.Goals as goal
 

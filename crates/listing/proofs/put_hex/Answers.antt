@@ -1,5 +1,5 @@
 -- `listing::put_hex` meets its contract. The invariant: the bytes before the i-th stand in hex. Assumes nothing.
-use Prim.Native.Nat.{ℕ, ◌*◌, ◌-◌, ◌≤◌}
+use Prim.Native.Nat.{ℕ, ◌*◌, ◌-◌}
 use mathlib.Core.Path.{◌≡◌, ap, ◌∙◌}
 use mathlib.Core.List.{List}
 use native.Mathlib.Omega.{arith}
@@ -7,7 +7,6 @@ use lib.ListN.{length, get_or}
 use Rattle.numbers.specs.Words.{concat_map}
 use Rattle.block.specs.Fields.{upto}
 use Rattle.layout.specs.Listing.{hex}
-use Rattle.listing.specs.Put.{Put}
 use Rattle.listing.proofs.Putting.{nothing_put, one_more, by_index, at_most, as_text}
 use Rattle.listing.proofs.put_hex.Goals as goal
 

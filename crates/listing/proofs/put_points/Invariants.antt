@@ -1,15 +1,11 @@
 -- `listing::put_points` meets its contract. The invariant: the lines of the points before the i-th stand. Assumes nothing.
 use Prim.Native.Nat.{◌*◌, ◌-◌, ◌≤◌}
-use mathlib.Core.Path.{◌≡◌, ◌∙◌}
-use native.Mathlib.Omega.{arith}
+use mathlib.Core.Path.{◌≡◌}
 use Rattle.numbers.specs.Words.{concat_map}
 use Rattle.block.specs.Fields.{upto}
 use Rattle.image.specs.Parts.{stored_count}
 use Rattle.image.specs.Apart.{point_at}
-use Rattle.image.proofs.Counted.{stored_few}
 use Rattle.listing.specs.Put.{Put, record_lines, most_line}
-use Rattle.listing.proofs.Texts.{points_part, all_points}
-use Rattle.listing.proofs.Putting.{nothing_put, one_more, at_most, as_text}
 use Rattle.listing.proofs.put_points.Given as goal
 
 abbrev pub invariant-loop-i : goal.invariant-loop-i

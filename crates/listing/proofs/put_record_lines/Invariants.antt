@@ -1,14 +1,11 @@
 -- `listing::put_record_lines` meets its contract. The invariant: the lines of the versions before the i-th stand. Assumes nothing.
-use Prim.Native.Nat.{ℕ, ◌*◌, ◌-◌, ◌≤◌, min}
-use mathlib.Core.Path.{◌≡◌, ap, ◌∙◌}
-use native.Mathlib.Omega.{arith}
+use Prim.Native.Nat.{◌*◌, ◌-◌, ◌≤◌}
 use Rattle.numbers.specs.Words.{concat_map}
 use Rattle.block.specs.Fields.{upto}
 use Rattle.layout.specs.PointBlock.{form_1, decode_stored}
 use Rattle.layout.specs.Listing.{version_line}
 use Rattle.listing.specs.Put.{Put, most_line}
-use Rattle.listing.proofs.Texts.{slot, versions_are}
-use Rattle.listing.proofs.Putting.{nothing_put, one_more, at_most, as_text}
+use Rattle.listing.proofs.Texts.{slot}
 use Rattle.listing.proofs.put_record_lines.Given as goal
 
 abbrev pub invariant-loop-i : goal.invariant-loop-i

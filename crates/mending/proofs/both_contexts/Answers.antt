@@ -1,5 +1,4 @@
 -- `mending::both_contexts` meets its contract (OfPoint). Assumes nothing.
-use borrow.Author.Rules.{rules}
 use mathlib.Core.Path.{ap, ◌∙◌}
 use Rattle.numbers.specs.declared.Key.{Key}
 use Rattle.meaning.specs.State.{local}

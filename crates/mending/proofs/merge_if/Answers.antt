@@ -1,5 +1,4 @@
 -- `mending::merge_if` meets its contract. Assumes nothing.
-use borrow.Author.Rules.{rules}
 use mathlib.Core.Path.{refl}
 use borrow.Author.Tests.{eq-eqb, ne_eqb}
 use Rattle.mending.proofs.merge_if.Goals as goal

@@ -1,15 +1,11 @@
 -- `mending::merge_marked` meets its contract. The invariant: the state is the one that the first i marks leave (Passing). Assumes nothing.
-use borrow.Author.Rules.{rules}
 use Prim.Native.Nat.{◌-◌, ◌/◌, ◌≤◌}
-use mathlib.Core.Path.{◌≡◌, ap, ◌∙◌}
+use mathlib.Core.Path.{◌≡◌}
 use lib.ListN.{length}
-use Rattle.block.proofs.Numbers.{bytes_of}
 use Rattle.layout.specs.Clocks.{decode_clock}
 use Rattle.layout.specs.Image.{image_length, decode}
 use Rattle.image_edits.specs.Edits.{Canonical}
-use Rattle.block.proofs.Runs.{block_part}
-use Rattle.mending.proofs.Passing.{reached, none_reached, passed_on, still_ascends, still_joinable, still_room}
-use native.Mathlib.Omega.{arith}
+use Rattle.mending.proofs.Passing.{reached}
 use Rattle.mending.proofs.merge_marked.Given as goal
 
 abbrev pub invariant-loop-i : goal.invariant-loop-i

@@ -1,5 +1,4 @@
 -- `mending::merge_with` meets its contract (OfPoint). Assumes nothing.
-use borrow.Author.Rules.{rules}
 use Prim.Native.Nat.{◌≤◌}
 use mathlib.Core.Path.{ap, sym, ◌∙◌, subst}
 use lib.ListN.{length}

@@ -1,12 +1,9 @@
 -- `merging::arrivals_deleted` meets its contract. The invariant is `Passing`: none of the versions before i arrives with a value (Judging). Assumes nothing.
-use borrow.Author.Rules.{rules}
 use Prim.Native.Nat.{◌-◌}
 use Rattle.block.specs.Fields.{field}
-use Rattle.block.proofs.Passing.{Passing, none_passed}
-use Rattle.record.proofs.Questions.{crewed_at}
+use Rattle.block.proofs.Passing.{Passing}
 use Rattle.object.proofs.Counting.{stays}
-use Rattle.merging.proofs.Judging.{worthless, value_found, value_not_yet, value_nowhere}
-use native.Mathlib.Omega.{arith}
+use Rattle.merging.proofs.Judging.{worthless}
 use Rattle.merging.proofs.arrivals_deleted.Given as goal
 
 abbrev pub invariant-loop-i : goal.invariant-loop-i

@@ -1,5 +1,4 @@
 -- `merging::drop_missed` meets its contract. The invariant: the versions from the i-th on are tested (object's Dropping). Assumes nothing.
-use borrow.Author.Rules.{rules}
 use Prim.Native.Nat.{◌-◌}
 use mathlib.Core.Path.{refl, ◌∙◌}
 use borrow.Author.Tests.{not-true, not-false}
@@ -8,7 +7,7 @@ use Rattle.meaning.specs.Object.{survivors}
 use Rattle.layout.specs.PointBlock.{form_1, decode_point}
 use Rattle.record.proofs.Reading.{version_at}
 use Rattle.record_edits.specs.Written.{point_block}
-use Rattle.object.proofs.Dropping.{Dropped, dropping_none, dropping_inside, dropping_small, dropping_one, dropping_keeps, dropping_drops, dropping_all}
+use Rattle.object.proofs.Dropping.{dropping_none, dropping_inside, dropping_small, dropping_one, dropping_keeps, dropping_drops, dropping_all}
 use Rattle.object.proofs.Entries.{crewed_dot}
 use Rattle.merging.proofs.Carrying.{lasts, lasts_is}
 use native.Mathlib.Omega.{arith}

@@ -1,5 +1,4 @@
 -- `merging::filled_context` meets its contract. The invariant: the counters of the first controllers are filled (Eight). Assumes nothing.
-use borrow.Author.Rules.{rules}
 use Prim.Native.Nat.{◌-◌, ◌+◌}
 use mathlib.Core.Path.{◌∙◌}
 use Rattle.numbers.specs.Numbers.{controller}
@@ -8,7 +7,7 @@ use Rattle.layout.specs.PointBlock.{decode_context}
 use Rattle.layout.specs.Clocks.{decode_clock}
 use Rattle.object.proofs.Entries.{filled_parts}
 use Rattle.object.proofs.Given.{read_stored}
-use Rattle.merging.proofs.Eight.{Made, made_none, made_more, made_all, filled_at}
+use Rattle.merging.proofs.Eight.{made_none, made_more, made_all, filled_at}
 use native.Mathlib.Omega.{arith}
 use Rattle.merging.proofs.filled_context.Goals as goal
 

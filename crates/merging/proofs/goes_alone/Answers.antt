@@ -1,5 +1,4 @@
 -- `merging::goes_alone` meets its contract. The answer hangs on the higher context and on those that arrive (Merged). Assumes nothing.
-use borrow.Author.Rules.{rules}
 use mathlib.Core.Path.{◌∙◌}
 use Rattle.block.proofs.Passing.{passed, failed, last_test, said_no, said_yes}
 use Rattle.numbers.specs.Words.{map}

@@ -1,5 +1,4 @@
 -- `merging::goes_with` meets its contract. The answer hangs on the higher context, on those that arrive and on those that stay (Merged). Assumes nothing.
-use borrow.Author.Rules.{rules}
 use mathlib.Core.Path.{◌∙◌}
 use Rattle.block.proofs.Passing.{passed, failed, last_test, said_no, said_yes}
 use Rattle.meaning.specs.Object.{survivors}

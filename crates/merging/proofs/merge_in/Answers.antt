@@ -1,5 +1,4 @@
 -- `merging::merge_in` meets its contract: the three passes make the merge (Whole). Assumes nothing.
-use borrow.Author.Rules.{rules}
 use Rattle.numbers.specs.Words.{map}
 use Rattle.numbers.specs.Numbers.{counter}
 use lib.ListN.{length}

@@ -1,5 +1,4 @@
 -- `merging::raise_to` meets its contract. The invariant: the entries of the first controllers are raised (object's Sweeping). Assumes nothing.
-use borrow.Author.Rules.{rules}
 use Prim.Native.Nat.{◌-◌}
 use mathlib.Core.Path.{refl, ◌∙◌}
 use Rattle.numbers.specs.Words.{map}
@@ -9,7 +8,7 @@ use Rattle.meaning.specs.Context.{higher}
 use Rattle.layout.specs.PointBlock.{form_1, decode_point}
 use Rattle.layout.proofs.Decoded.{point_decoded}
 use Rattle.record_edits.specs.Written.{point_block}
-use Rattle.object.proofs.Sweeping.{Swept, sweeping_none, sweeping_entry, sweeping_more, sweeping_all}
+use Rattle.object.proofs.Sweeping.{sweeping_none, sweeping_entry, sweeping_more, sweeping_all}
 use Rattle.merging.proofs.Eight.{higher_at, read_higher}
 use native.Mathlib.Omega.{arith}
 use Rattle.merging.proofs.raise_to.Goals as goal

@@ -1,17 +1,11 @@
 -- `merging::raise_to` meets its contract. The invariant: the entries of the first controllers are raised (object's Sweeping). Assumes nothing.
-use borrow.Author.Rules.{rules}
 use Prim.Native.Nat.{◌-◌}
-use mathlib.Core.Path.{refl, ◌∙◌}
 use Rattle.numbers.specs.Words.{map}
 use Rattle.numbers.specs.Numbers.{counter}
-use Rattle.block.proofs.Numbers.{bytes_of}
-use Rattle.meaning.specs.Context.{higher}
 use Rattle.layout.specs.PointBlock.{form_1, decode_point}
-use Rattle.layout.proofs.Decoded.{point_decoded}
 use Rattle.record_edits.specs.Written.{point_block}
-use Rattle.object.proofs.Sweeping.{Swept, sweeping_none, sweeping_entry, sweeping_more, sweeping_all}
-use Rattle.merging.proofs.Eight.{higher_at, read_higher}
-use native.Mathlib.Omega.{arith}
+use Rattle.object.proofs.Sweeping.{Swept}
+use Rattle.merging.proofs.Eight.{higher_at}
 use Rattle.merging.proofs.raise_to.Given as goal
 
 abbrev pub invariant-loop-i : goal.invariant-loop-i

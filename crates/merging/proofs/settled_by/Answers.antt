@@ -1,10 +1,9 @@
 -- `merging::settled_by` meets its contract. The invariant is `Passing`: the higher entries before i are not above their bases (object's Going). Assumes nothing.
-use borrow.Author.Rules.{rules}
 use Prim.Native.Nat.{◌-◌}
 use mathlib.Core.Path.{◌∙◌}
 use Rattle.numbers.specs.Words.{map}
 use Rattle.numbers.specs.Numbers.{counter}
-use Rattle.block.proofs.Passing.{Passing, none_passed, one_more, one_fails, all_passed}
+use Rattle.block.proofs.Passing.{none_passed, one_more, one_fails, all_passed}
 use Rattle.meaning.specs.Context.{higher}
 use Rattle.layout.specs.Clocks.{decode_clock}
 use Rattle.record.proofs.Questions.{at_base, above_base}

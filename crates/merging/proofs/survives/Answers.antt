@@ -1,5 +1,4 @@
 -- `merging::survives` meets its contract: either question decides (Carrying). Assumes nothing.
-use borrow.Author.Rules.{rules}
 use Rattle.merging.proofs.Carrying.{stays_both, stays_alone}
 use Rattle.merging.proofs.survives.Goals as goal
 

@@ -1,9 +1,7 @@
 -- `merging::surviving` meets its contract. The invariant: of the versions before i, `stay` survive (object's Counting). Assumes nothing.
-use borrow.Author.Rules.{rules}
 use Prim.Native.Nat.{◌-◌}
 use mathlib.Core.Path.{ap, sym, subst, ◌∙◌}
 use mathlib.Core.List.{List}
-use mathlib.Core.Logic.{⊎_elim}
 use lib.ListN.{length}
 use Rattle.numbers.specs.declared.Dot.{Dot}
 use Rattle.numbers.specs.Words.{keep}
@@ -12,7 +10,7 @@ use Rattle.block.specs.Fields.{field}
 use Rattle.meaning.specs.Object.{Version, survivors}
 use Rattle.record.proofs.Reading.{version_at, versions_are}
 use Rattle.record.proofs.Questions.{crewed_at}
-use Rattle.object.proofs.Counting.{Counted, none_counted, counted_more, counted_past, counted_all}
+use Rattle.object.proofs.Counting.{none_counted, counted_more, counted_past, counted_all}
 use Rattle.merging.proofs.Carrying.{lasts, lasts_is}
 use native.Mathlib.Omega.{arith}
 use Rattle.merging.proofs.surviving.Goals as goal
@@ -37,9 +35,10 @@ pub loop-i-preserved : goal.loop-i-preserved
 loop-i-preserved c = let a = c.args in
     let l = c.loop-i in
     let said = lasts_is a.m.now a.there.now (version_at a.b.now l.i) c.version_dot.ensures c.survives.ensures in
-    elim c.if-survives.branch
-    [ then-survives w ↦ counted_more l.invariant (omega (arith, c.version_count-count.ensures)) (said ∙ w.if-survives.true) w.stay-is
-    | else-survives w ↦ counted_past l.invariant (omega (arith, c.version_count-count.ensures)) (said ∙ w.if-survives.false) w.stay-is ]
+    elim c.if-survives.branch [
+      | then-survives w ↦ counted_more l.invariant (omega (arith, c.version_count-count.ensures)) (said ∙ w.if-survives.true) w.stay-is
+      | else-survives w ↦ counted_past l.invariant (omega (arith, c.version_count-count.ensures)) (said ∙ w.if-survives.false) w.stay-is
+    ]
 
 pub returns : goal.returns
 returns c = let a = c.args in

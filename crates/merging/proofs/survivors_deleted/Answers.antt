@@ -1,8 +1,7 @@
 -- `merging::survivors_deleted` meets its contract. The invariant is `Passing`: none of the versions before i stays with a value (Judging). Assumes nothing.
-use borrow.Author.Rules.{rules}
 use Prim.Native.Nat.{◌-◌}
 use Rattle.block.specs.Fields.{field}
-use Rattle.block.proofs.Passing.{Passing, none_passed}
+use Rattle.block.proofs.Passing.{none_passed}
 use Rattle.meaning.specs.Object.{survivors}
 use Rattle.record.proofs.Questions.{crewed_at}
 use Rattle.merging.proofs.Carrying.{lasts}

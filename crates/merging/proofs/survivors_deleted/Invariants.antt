@@ -1,13 +1,9 @@
 -- `merging::survivors_deleted` meets its contract. The invariant is `Passing`: none of the versions before i stays with a value (Judging). Assumes nothing.
-use borrow.Author.Rules.{rules}
 use Prim.Native.Nat.{◌-◌}
 use Rattle.block.specs.Fields.{field}
-use Rattle.block.proofs.Passing.{Passing, none_passed}
-use Rattle.meaning.specs.Object.{survivors}
-use Rattle.record.proofs.Questions.{crewed_at}
+use Rattle.block.proofs.Passing.{Passing}
 use Rattle.merging.proofs.Carrying.{lasts}
-use Rattle.merging.proofs.Judging.{worthless, value_found, value_not_yet, value_nowhere}
-use native.Mathlib.Omega.{arith}
+use Rattle.merging.proofs.Judging.{worthless}
 use Rattle.merging.proofs.survivors_deleted.Given as goal
 
 abbrev pub invariant-loop-i : goal.invariant-loop-i

@@ -1,5 +1,4 @@
 -- `merging::value_arrives` meets its contract: its length says that it is deleted, or its dot decides (Judging). Assumes nothing.
-use borrow.Author.Rules.{rules}
 use mathlib.Core.Path.{ap, sym, subst, ◌∙◌}
 use mathlib.Core.Bool.{not}
 use Rattle.numbers.specs.declared.Dot.{Dot}

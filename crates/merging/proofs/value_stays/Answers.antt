@@ -1,5 +1,4 @@
 -- `merging::value_stays` meets its contract: its length says that it is deleted, or its dot decides (Judging). Assumes nothing.
-use borrow.Author.Rules.{rules}
 use mathlib.Core.Path.{sym, subst}
 use Rattle.numbers.specs.declared.Dot.{Dot}
 use Rattle.numbers.specs.Numbers.{Crew}

@@ -6,7 +6,6 @@ use lib.ListN.{length}
 use Rattle.layout.specs.Calls.{After, one_block}
 use Rattle.opening.proofs.Ladder.{what_is_opened}
 use Rattle.message_calls.proofs.Asking.{ask_refused, ask_goes_on}
-use borrow.Author.Rules.{rules}
 use Rattle.message_calls.proofs.ask.Goals as goal
 
 pub ask_at-requires : goal.ask_at-requires

@@ -1,5 +1,4 @@
 -- `message_calls::repair` meets its contract. Refused by rows 1 and 2, or what the step answers (Repairing). Assumes nothing.
-use borrow.Author.Rules.{rules}
 use mathlib.Core.Path.{ap, sym, ◌∙◌}
 use mathlib.Core.Bool.{Bool}
 use Rattle.refusal.specs.Refusal.{verdict_of}

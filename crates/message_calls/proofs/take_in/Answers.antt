@@ -1,5 +1,4 @@
 -- `message_calls::take_in` meets its contract. Refused by rows 1 and 2, or what the step answers (TakingIn). Assumes nothing.
-use borrow.Author.Rules.{rules}
 use mathlib.Core.Path.{ap, sym, ◌∙◌}
 use borrow.Author.Tests.{eqb-true}
 use lib.ListN.{length}

@@ -1,5 +1,4 @@
 -- `noting::arrives_new` meets its contract (Looking). Assumes nothing.
-use borrow.Author.Rules.{rules}
 use Rattle.noting.proofs.Looking.{known_already, not_known}
 use Rattle.noting.proofs.arrives_new.Goals as goal
 

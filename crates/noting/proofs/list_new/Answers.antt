@@ -7,7 +7,7 @@ use Rattle.block.proofs.Numbers.{bytes_of}
 use Rattle.layout.specs.Image.{decode}
 use Rattle.store.proofs.Lent.{good_now, good_canonical}
 use Rattle.arriving.specs.Sent.{points_in}
-use Rattle.noting.proofs.Rounds.{Listing, foreign_count, none_listed, fresh_crew, same_points, still_ascend, full, ends, not_listed, list_ascends, one_fits, one_listed}
+use Rattle.noting.proofs.Rounds.{foreign_count, none_listed, fresh_crew, same_points, still_ascend, full, ends, not_listed, list_ascends, one_fits, one_listed}
 use Rattle.noting.proofs.list_new.Goals as goal
 
 pub loop-listed-init : goal.loop-listed-init

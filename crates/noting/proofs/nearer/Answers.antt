@@ -1,5 +1,4 @@
 -- `noting::nearer` meets its contract. The choice between two (Choosing). Assumes nothing.
-use borrow.Author.Rules.{rules}
 use mathlib.Core.Path.{sym, ◌∙◌}
 use Rattle.noting.proofs.Choosing.{first_found, now_nearer, still_nearer}
 use Rattle.noting.proofs.nearer.Goals as goal

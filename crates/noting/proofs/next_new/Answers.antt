@@ -1,5 +1,4 @@
 -- `noting::next_new` meets its contract. The invariant: the points before j were looked into (Looking). Assumes nothing.
-use borrow.Author.Rules.{rules}
 use Prim.Native.Nat.{◌-◌, ◌/◌}
 use mathlib.Core.Path.{◌∙◌}
 use lib.ListN.{length}
@@ -7,7 +6,7 @@ use Rattle.block.specs.Block.{block_at}
 use Rattle.block.proofs.Numbers.{bytes_of}
 use Rattle.layout.specs.PointBlock.{form_1, decode_stored}
 use Rattle.layout.specs.Image.{decode}
-use Rattle.arriving.proofs.Folding.{Folded, none_folded, folded_all}
+use Rattle.arriving.proofs.Folding.{none_folded, folded_all}
 use Rattle.arriving.proofs.OfPoints.{lent_size, lent_few}
 use Rattle.noting.specs.declared.Next.TheVariants.{Nothing}
 use Rattle.noting.proofs.Looking.{look_into, all_looked, lent_crewed, one_looked}

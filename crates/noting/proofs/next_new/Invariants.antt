@@ -1,17 +1,11 @@
 -- `noting::next_new` meets its contract. The invariant: the points before j were looked into (Looking). Assumes nothing.
-use borrow.Author.Rules.{rules}
 use Prim.Native.Nat.{◌-◌, ◌/◌}
-use mathlib.Core.Path.{◌∙◌}
 use lib.ListN.{length}
 use Rattle.block.specs.Block.{block_at}
-use Rattle.block.proofs.Numbers.{bytes_of}
 use Rattle.layout.specs.PointBlock.{form_1, decode_stored}
 use Rattle.layout.specs.Image.{decode}
-use Rattle.arriving.proofs.Folding.{Folded, none_folded, folded_all}
-use Rattle.arriving.proofs.OfPoints.{lent_size, lent_few}
-use Rattle.noting.specs.declared.Next.TheVariants.{Nothing}
-use Rattle.noting.proofs.Looking.{look_into, all_looked, lent_crewed, one_looked}
-use native.Mathlib.Omega.{arith}
+use Rattle.arriving.proofs.Folding.{Folded}
+use Rattle.noting.proofs.Looking.{look_into}
 use Rattle.noting.proofs.next_new.Given as goal
 
 abbrev pub invariant-loop-j : goal.invariant-loop-j

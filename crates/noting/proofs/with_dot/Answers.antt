@@ -1,5 +1,4 @@
 -- `noting::with_dot` meets its contract (Choosing). Assumes nothing.
-use borrow.Author.Rules.{rules}
 use mathlib.Core.Path.{sym, ◌∙◌}
 use borrow.Author.Tests.{not-true, not-false}
 use Rattle.layout.specs.Image.{decode}

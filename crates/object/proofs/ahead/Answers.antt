@@ -1,12 +1,11 @@
 -- `object::ahead` meets its contract. The invariant is `Passing`: before i the given context is in no entry above the filled one. Assumes nothing.
-use borrow.Author.Rules.{rules}
 use Prim.Native.Nat.{◌+◌, ◌-◌}
 use mathlib.Core.Path.{ap, ◌∙◌}
 use mathlib.Core.Bool.{not}
 use native.Mathlib.Omega.{arith}
 use borrow.Author.Tests.{lt-ltb, le-ltb}
 use Rattle.numbers.specs.Numbers.{controller}
-use Rattle.block.proofs.Passing.{Passing, none_passed, one_more}
+use Rattle.block.proofs.Passing.{none_passed, one_more}
 use Rattle.layout.specs.PointBlock.{decode_context}
 use Rattle.layout.specs.Clocks.{decode_clock}
 use Rattle.object.proofs.Given.{above, read_stored, read_above, one_above, none_above}

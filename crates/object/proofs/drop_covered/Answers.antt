@@ -9,9 +9,8 @@ use Rattle.block.proofs.Numbers.{bytes_of}
 use Rattle.meaning.specs.Context.{covers}
 use Rattle.layout.specs.PointBlock.{form_1, decode_point}
 use Rattle.record_edits.specs.Written.{point_block}
-use Rattle.object.proofs.Dropping.{Dropped, dropping_none, dropping_inside, dropping_small, dropping_one, dropping_keeps, dropping_drops, dropping_all}
+use Rattle.object.proofs.Dropping.{dropping_none, dropping_inside, dropping_small, dropping_one, dropping_keeps, dropping_drops, dropping_all}
 use Rattle.object.proofs.Entries.{crewed_dot}
-use borrow.Author.Rules.{rules}
 use Rattle.object.proofs.drop_covered.Goals as goal
 
 pub loop-i-init : goal.loop-i-init

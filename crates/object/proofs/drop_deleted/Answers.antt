@@ -5,9 +5,8 @@ use native.Mathlib.Omega.{arith}
 use Rattle.block.proofs.Numbers.{bytes_of}
 use Rattle.meaning.specs.Object.{has_value}
 use Rattle.record_edits.specs.Written.{point_block}
-use Rattle.object.proofs.Dropping.{Dropped, dropping_none, dropping_inside, dropping_small, dropping_keeps, dropping_drops, dropping_all}
+use Rattle.object.proofs.Dropping.{dropping_none, dropping_inside, dropping_small, dropping_keeps, dropping_drops, dropping_all}
 use Rattle.object.proofs.Entries.{is_deleted, is_value}
-use borrow.Author.Rules.{rules}
 use Rattle.object.proofs.drop_deleted.Goals as goal
 
 pub loop-i-init : goal.loop-i-init

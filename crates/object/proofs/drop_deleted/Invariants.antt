@@ -1,13 +1,8 @@
 -- `object::drop_deleted` meets its contract. The invariant: the versions from the i-th on are tested (Dropping). Assumes nothing.
 use Prim.Native.Nat.{◌-◌}
-use mathlib.Core.Path.{refl}
-use native.Mathlib.Omega.{arith}
-use Rattle.block.proofs.Numbers.{bytes_of}
 use Rattle.meaning.specs.Object.{has_value}
 use Rattle.record_edits.specs.Written.{point_block}
-use Rattle.object.proofs.Dropping.{Dropped, dropping_none, dropping_inside, dropping_small, dropping_keeps, dropping_drops, dropping_all}
-use Rattle.object.proofs.Entries.{is_deleted, is_value}
-use borrow.Author.Rules.{rules}
+use Rattle.object.proofs.Dropping.{Dropped}
 use Rattle.object.proofs.drop_deleted.Given as goal
 
 abbrev pub invariant-loop-i : goal.invariant-loop-i

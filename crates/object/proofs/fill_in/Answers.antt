@@ -13,9 +13,8 @@ use Rattle.layout.specs.PointBlock.{form_1, decode_point}
 use Rattle.layout.specs.Clocks.{decode_clock}
 use Rattle.layout.proofs.Decoded.{point_decoded}
 use Rattle.record_edits.specs.Written.{point_block}
-use Rattle.object.proofs.Sweeping.{Swept, sweeping_none, sweeping_entry, sweeping_more, sweeping_all}
+use Rattle.object.proofs.Sweeping.{sweeping_none, sweeping_entry, sweeping_more, sweeping_all}
 use Rattle.object.proofs.Entries.{entry_is}
-use borrow.Author.Rules.{rules}
 use Rattle.object.proofs.fill_in.Goals as goal
 
 pub u8_at-job-requires : goal.u8_at-job-requires

@@ -1,21 +1,14 @@
 -- `object::fill_in` meets its contract. The invariant: the entries of the first controllers are filled (Sweeping). Assumes nothing.
 use Prim.Native.Nat.{◌-◌, max}
-use mathlib.Core.Path.{refl, ◌∙◌}
-use native.Mathlib.Omega.{arith}
 use Rattle.numbers.specs.Words.{if◌then◌else◌}
 use Rattle.numbers.specs.Numbers.{counter}
-use Rattle.block.proofs.Numbers.{bytes_of}
 use Rattle.meaning.specs.CrewTable.{holds}
 use Rattle.meaning.specs.Clock.{row}
-use Rattle.meaning.specs.Context.{entry, fill_context}
-use Rattle.meaning.specs.Object.{fill}
+use Rattle.meaning.specs.Context.{entry}
 use Rattle.layout.specs.PointBlock.{form_1, decode_point}
 use Rattle.layout.specs.Clocks.{decode_clock}
-use Rattle.layout.proofs.Decoded.{point_decoded}
 use Rattle.record_edits.specs.Written.{point_block}
-use Rattle.object.proofs.Sweeping.{Swept, sweeping_none, sweeping_entry, sweeping_more, sweeping_all}
-use Rattle.object.proofs.Entries.{entry_is}
-use borrow.Author.Rules.{rules}
+use Rattle.object.proofs.Sweeping.{Swept}
 use Rattle.object.proofs.fill_in.Given as goal
 
 abbrev pub invariant-loop-i : goal.invariant-loop-i

@@ -1,6 +1,5 @@
 -- `object::filled_entry` meets its contract. Each answer is the higher one, or the entry of no holder (Entries). Assumes nothing.
 use Rattle.object.proofs.Entries.{filled_up, filled_already}
-use borrow.Author.Rules.{rules}
 use Rattle.object.proofs.filled_entry.Goals as goal
 
 pub returns-then-e-base : goal.returns-then-e-base

@@ -7,9 +7,7 @@ use borrow.Author.Tests.{not-true, not-false}
 use Rattle.numbers.specs.declared.Dot.{Dot}
 use Rattle.numbers.specs.Dot.{dot_before}
 use Rattle.numbers.proofs.Dots.{dot_order}
-use Rattle.block.specs.Fields.{field}
-use Rattle.block.proofs.Search.{Between, nothing_yet, upper_half, lower_half}
-use Rattle.record.proofs.Reading.{version_at}
+use Rattle.block.proofs.Search.{nothing_yet, upper_half, lower_half}
 use Rattle.object.proofs.VersionPlaces.{version_pairs, version_found, version_nowhere}
 use Rattle.object.proofs.find_version.Goals as goal
 

@@ -1,6 +1,5 @@
 -- `object::given_covers` meets its contract (Entries). Assumes nothing.
 use Rattle.object.proofs.Entries.{given_covers_is}
-use borrow.Author.Rules.{rules}
 use Rattle.object.proofs.given_covers.Goals as goal
 
 pub returns : goal.returns

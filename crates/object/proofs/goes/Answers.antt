@@ -1,5 +1,4 @@
 -- `object::goes` meets its contract. The answer hangs on the stripped context and on the versions (Going). Assumes nothing.
-use borrow.Author.Rules.{rules}
 use mathlib.Core.Path.{refl, ◌∙◌}
 use Rattle.block.proofs.Passing.{passed, failed, last_test, said_no, said_yes}
 use Rattle.layout.specs.Clocks.{decode_clock}

@@ -1,5 +1,4 @@
 -- `object::put_version` meets its contract. The place that was found is that of the version (VersionPlaces). Assumes nothing.
-use borrow.Author.Rules.{rules}
 use Rattle.block.proofs.Numbers.{bytes_of}
 use Rattle.layout.specs.PointBlock.{form_1, decode_slot}
 use Rattle.record_edits.proofs.Edits.{count_is}

@@ -1,5 +1,4 @@
 -- `object::slot_dot` meets its contract: two fields of the slot. Assumes nothing.
-use borrow.Author.Rules.{rules}
 use Rattle.numbers.specs.Dot.{dot}
 use Rattle.layout.specs.PointBlock.{decode_slot}
 use Rattle.object.proofs.slot_dot.Goals as goal

@@ -1,10 +1,8 @@
 -- `object::staying` meets its contract. The invariant: of the versions before i, `stay` are not covered (Counting). Assumes nothing.
-use borrow.Author.Rules.{rules}
 use Prim.Native.Nat.{◌-◌}
 use mathlib.Core.Path.{ap, sym, subst, ◌∙◌}
 use mathlib.Core.Bool.{not}
 use mathlib.Core.List.{List}
-use mathlib.Core.Logic.{⊎_elim}
 use native.Mathlib.Omega.{arith}
 use lib.ListN.{length}
 use Rattle.numbers.specs.declared.Dot.{Dot}
@@ -15,7 +13,7 @@ use Rattle.meaning.specs.Context.{covers}
 use Rattle.meaning.specs.Object.{Version}
 use Rattle.record.proofs.Reading.{version_at, versions_are}
 use Rattle.record.proofs.Questions.{crewed_at}
-use Rattle.object.proofs.Counting.{Counted, none_counted, counted_more, counted_past, counted_all, stays}
+use Rattle.object.proofs.Counting.{none_counted, counted_more, counted_past, counted_all, stays}
 use Rattle.object.proofs.staying.Goals as goal
 use Rattle.object.proofs.staying.Goals.{then-not-given_covers, else-not-given_covers}
 

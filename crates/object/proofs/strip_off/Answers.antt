@@ -15,8 +15,7 @@ use Rattle.layout.specs.PointBlock.{form_1, decode_point}
 use Rattle.layout.specs.Clocks.{decode_clock}
 use Rattle.layout.proofs.Decoded.{point_decoded}
 use Rattle.record_edits.specs.Written.{point_block}
-use Rattle.object.proofs.Sweeping.{Swept, sweeping_none, sweeping_entry, sweeping_more, sweeping_all}
-use borrow.Author.Rules.{rules}
+use Rattle.object.proofs.Sweeping.{sweeping_none, sweeping_entry, sweeping_more, sweeping_all}
 use Rattle.object.proofs.strip_off.Goals as goal
 
 pub loop-i-init : goal.loop-i-init

@@ -1,22 +1,14 @@
 -- `object::strip_off` meets its contract. The invariant: the entries of the first controllers are stripped (Sweeping). Assumes nothing.
 use Prim.Native.Nat.{◌-◌}
-use mathlib.Core.Path.{refl, ap₂, ◌∙◌}
-use native.Mathlib.Omega.{arith}
 use lib.Dec.{leb}
-use Rattle.numbers.specs.declared.Counter.{Counter}
 use Rattle.numbers.specs.Words.{if◌then◌else◌}
 use Rattle.numbers.specs.Numbers.{counter}
-use Rattle.block.proofs.Numbers.{bytes_of}
-use Rattle.row.specs.declared.Row.{Row}
 use Rattle.meaning.specs.Clock.{row}
-use Rattle.meaning.specs.Context.{entry, strip_context}
-use Rattle.meaning.specs.Object.{strip}
+use Rattle.meaning.specs.Context.{entry}
 use Rattle.layout.specs.PointBlock.{form_1, decode_point}
 use Rattle.layout.specs.Clocks.{decode_clock}
-use Rattle.layout.proofs.Decoded.{point_decoded}
 use Rattle.record_edits.specs.Written.{point_block}
-use Rattle.object.proofs.Sweeping.{Swept, sweeping_none, sweeping_entry, sweeping_more, sweeping_all}
-use borrow.Author.Rules.{rules}
+use Rattle.object.proofs.Sweeping.{Swept}
 use Rattle.object.proofs.strip_off.Given as goal
 
 abbrev pub invariant-loop-i : goal.invariant-loop-i

@@ -1,13 +1,9 @@
 -- `object::strips_to_none` meets its contract. The invariant is `Passing`: the entries before i are not above their bases. Assumes nothing.
-use borrow.Author.Rules.{rules}
 use Prim.Native.Nat.{◌-◌}
-use mathlib.Core.Path.{◌∙◌}
-use native.Mathlib.Omega.{arith}
-use Rattle.block.proofs.Passing.{Passing, none_passed, one_more, one_fails, all_passed}
+use Rattle.block.proofs.Passing.{Passing}
 use Rattle.layout.specs.PointBlock.{form_1, decode_point}
 use Rattle.layout.specs.Clocks.{decode_clock}
-use Rattle.record.proofs.Questions.{at_base, above_base}
-use Rattle.object.proofs.Going.{low, strips_empty}
+use Rattle.object.proofs.Going.{low}
 use Rattle.object.proofs.strips_to_none.Given as goal
 
 abbrev pub invariant-loop-i : goal.invariant-loop-i

@@ -3,7 +3,6 @@ use mathlib.Core.Path.{sym, ◌∙◌}
 use borrow.Author.Tests.{not-true, not-false}
 use Rattle.store.proofs.Lent.{own_is_crew}
 use Rattle.opening.proofs.Ladder.{what_is_opened, not_admitted, not_ours, may_go_on}
-use borrow.Author.Rules.{rules}
 use Rattle.opening.proofs.admit.Goals as goal
 
 pub is_ours-requires : goal.is_ours-requires

@@ -3,7 +3,6 @@ use mathlib.Core.Path.{sym, ◌∙◌}
 use native.Mathlib.Omega.{arith}
 use borrow.Author.Tests.{not-true, not-false}
 use Rattle.opening.proofs.Ladder.{no_image, no_buffer, bad_image, may_open}
-use borrow.Author.Rules.{rules}
 use Rattle.opening.proofs.opens.Goals as goal
 
 pub returns-then-image-ne34304 : goal.returns-then-image-ne34304

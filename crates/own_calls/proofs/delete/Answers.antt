@@ -17,7 +17,6 @@ use Rattle.writing.specs.LeftBy.{left_by}
 use Rattle.opening.specs.Admitted.{admitted}
 use Rattle.opening.proofs.Ladder.{what_is_admitted}
 use Rattle.own_calls.proofs.Writing.{delete_refused, delete_goes_on}
-use borrow.Author.Rules.{rules}
 use Rattle.own_calls.proofs.delete.Goals as goal
 
 pub delete_at-requires : goal.delete_at-requires

@@ -13,7 +13,6 @@ use Rattle.layout.specs.Calls.{After, one_block}
 use Rattle.opening.specs.Admitted.{admitted}
 use Rattle.opening.proofs.Ladder.{what_is_admitted}
 use Rattle.own_calls.proofs.Reading.{read_refused, read_shown}
-use borrow.Author.Rules.{rules}
 use Rattle.own_calls.proofs.read.Goals as goal
 
 pub write_reading-requires : goal.write_reading-requires

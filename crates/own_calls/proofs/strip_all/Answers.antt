@@ -10,7 +10,7 @@ use Rattle.image.specs.Places.{no_point}
 use Rattle.image_edits.specs.Edits.{with_points}
 use Rattle.store.specs.Restored.{restored}
 use Rattle.store.proofs.Lent.{counted, good_ascends, good_canonical, good_now}
-use Rattle.own_calls.proofs.StripPass.{Stripping, stripping_none, stripping_inside, stripping_more, went_one, went_none, stripped_image, stripped_count}
+use Rattle.own_calls.proofs.StripPass.{stripping_none, stripping_inside, stripping_more, went_one, went_none, stripped_image, stripped_count}
 use Rattle.own_calls.proofs.strip_all.Goals as goal
 
 pub stored_count-stored-requires : goal.stored_count-stored-requires

@@ -7,7 +7,6 @@ use Rattle.layout.specs.Calls.{After}
 use Rattle.store.proofs.Lent.{rows_copied}
 use Rattle.opening.proofs.Ladder.{what_is_opened}
 use Rattle.own_calls.proofs.StripPass.{strip_refused, strip_passed}
-use borrow.Author.Rules.{rules}
 use Rattle.own_calls.proofs.strip_pass.Goals as goal
 
 pub slice_bounds-copy_in-end-in-Accepted : goal.slice_bounds-copy_in-end-in-Accepted

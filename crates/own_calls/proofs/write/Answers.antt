@@ -17,7 +17,6 @@ use Rattle.writing.specs.LeftBy.{left_by}
 use Rattle.opening.specs.Admitted.{admitted}
 use Rattle.opening.proofs.Ladder.{what_is_admitted}
 use Rattle.own_calls.proofs.Writing.{write_refused, write_goes_on}
-use borrow.Author.Rules.{rules}
 use Rattle.own_calls.proofs.write.Goals as goal
 
 pub write_at-requires : goal.write_at-requires

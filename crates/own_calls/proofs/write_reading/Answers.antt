@@ -2,7 +2,6 @@
 use Prim.Native.Nat.{◌-◌}
 use Rattle.store.proofs.Lent.{counted, good_ascends, good_canonical}
 use Rattle.own_calls.proofs.Reading.{reading_lent}
-use borrow.Author.Rules.{rules}
 use Rattle.own_calls.proofs.write_reading.Goals as goal
 
 pub fetch-requires : goal.fetch-requires

@@ -1,4 +1,3 @@
-use borrow.Author.Rules.{rules}
 use mathlib.Core.Path.{ap, ◌∙◌}
 use Rattle.row.specs.declared.Row.{Row}
 use Rattle.row.specs.Row.{has}

@@ -1,5 +1,4 @@
 -- `reader::point_at` meets its contract. Assumes nothing.
-use borrow.Author.Rules.{rules}
 use Rattle.reader.proofs.Parts.{point_part}
 use Rattle.reader.proofs.point_at.Goals as goal
 

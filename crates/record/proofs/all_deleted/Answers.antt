@@ -5,7 +5,7 @@ use native.Mathlib.Omega.{arith}
 use lib.Dec.{eqb}
 use borrow.Author.Tests.{eq-eqb, ne_eqb}
 use Rattle.block.specs.Fields.{field}
-use Rattle.block.proofs.Passing.{Passing, none_passed, one_more, one_fails, all_passed}
+use Rattle.block.proofs.Passing.{none_passed, one_more, one_fails, all_passed}
 use Rattle.record.proofs.all_deleted.Goals as goal
 
 pub loop-i-init : goal.loop-i-init

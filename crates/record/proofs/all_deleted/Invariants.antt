@@ -1,11 +1,8 @@
 -- `record::all_deleted` meets its contract. The invariant is `Passing`: the versions before i are deleted. Assumes nothing.
-use Prim.Native.Nat.{ℕ, ◌+◌, ◌*◌, ◌-◌}
-use mathlib.Core.Path.{sym, ap, ◌∙◌}
-use native.Mathlib.Omega.{arith}
+use Prim.Native.Nat.{◌+◌, ◌*◌, ◌-◌}
 use lib.Dec.{eqb}
-use borrow.Author.Tests.{eq-eqb, ne_eqb}
 use Rattle.block.specs.Fields.{field}
-use Rattle.block.proofs.Passing.{Passing, none_passed, one_more, one_fails, all_passed}
+use Rattle.block.proofs.Passing.{Passing}
 use Rattle.record.proofs.all_deleted.Given as goal
 
 abbrev pub invariant-loop-i : goal.invariant-loop-i

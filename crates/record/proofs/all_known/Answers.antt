@@ -6,7 +6,7 @@ use Rattle.numbers.specs.declared.Dot.{Dot}
 use Rattle.numbers.specs.Numbers.{Crew}
 use Rattle.meaning.specs.Clock.{in_clock}
 use Rattle.layout.specs.Clocks.{decode_clock}
-use Rattle.block.proofs.Passing.{Passing, none_passed, one_more, one_fails, all_passed, said_no, said_yes}
+use Rattle.block.proofs.Passing.{none_passed, one_more, one_fails, all_passed, said_no, said_yes}
 use Rattle.record.proofs.Formed.{all_versions}
 use Rattle.record.proofs.Questions.{crewed_at}
 use Rattle.record.proofs.Reading.{version_at}

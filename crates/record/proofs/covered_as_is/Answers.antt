@@ -6,7 +6,7 @@ use Rattle.numbers.specs.declared.Dot.{Dot}
 use Rattle.numbers.specs.Numbers.{Crew}
 use Rattle.meaning.specs.Context.{covers}
 use Rattle.layout.specs.PointBlock.{form_1, decode_point}
-use Rattle.block.proofs.Passing.{Passing, none_passed, one_more, one_fails, all_passed}
+use Rattle.block.proofs.Passing.{none_passed, one_more, one_fails, all_passed}
 use Rattle.record.proofs.Questions.{crewed_at, all_covered, read_covers, read_misses}
 use Rattle.record.proofs.Reading.{version_at}
 use Rattle.record.proofs.covered_as_is.Goals as goal

@@ -1,7 +1,6 @@
 -- `record::covered_at` meets its contract. The entry covers the dot, or the base of a holder's row does. Assumes nothing.
 use mathlib.Core.Path.{sym, subst}
 use native.Mathlib.Omega.{arith}
-use borrow.Author.Rules.{rules}
 use Rattle.numbers.specs.declared.Dot.{Dot}
 use Rattle.numbers.specs.Numbers.{Crew}
 use Rattle.block.specs.Fields.{field}

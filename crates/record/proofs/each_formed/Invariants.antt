@@ -1,8 +1,7 @@
 -- `record::each_formed` meets its contract. The invariant is `Passing`: the versions before i are well-formed. Assumes nothing.
 use Prim.Native.Nat.{◌-◌}
-use native.Mathlib.Omega.{arith}
 use Rattle.meaning.specs.Message.{version_formed}
-use Rattle.block.proofs.Passing.{Passing, none_passed, one_more, one_fails, all_passed, said_no, said_yes}
+use Rattle.block.proofs.Passing.{Passing}
 use Rattle.record.proofs.Reading.{version_at}
 use Rattle.record.proofs.each_formed.Given as goal
 

@@ -1,7 +1,7 @@
 -- `record::entries_formed` meets its contract. The invariant is `Passing`: the entries before i are well-formed. Assumes nothing.
 use Prim.Native.Nat.{◌-◌}
 use native.Mathlib.Omega.{arith}
-use Rattle.block.proofs.Passing.{Passing, none_passed, one_more, one_fails, all_passed, said_no, said_yes}
+use Rattle.block.proofs.Passing.{none_passed, one_more, one_fails, all_passed, said_no, said_yes}
 use Rattle.record.proofs.Formed.{named}
 use Rattle.record.proofs.entries_formed.Goals as goal
 

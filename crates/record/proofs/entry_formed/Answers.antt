@@ -1,6 +1,5 @@
 -- `record::entry_formed` meets its contract. An entry of 0, or one of a holder. Assumes nothing.
 use mathlib.Core.Path.{◌∙◌}
-use borrow.Author.Rules.{rules}
 use Rattle.meaning.specs.CrewTable.{holds}
 use Rattle.record.proofs.Formed.{entry_none, entry_some}
 use Rattle.record.proofs.entry_formed.Goals as goal

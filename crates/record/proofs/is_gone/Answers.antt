@@ -1,7 +1,6 @@
 -- `record::is_gone` meets its contract. The answer hangs on the context and on the versions. Assumes nothing.
 use mathlib.Core.Path.{refl, ◌∙◌}
 use native.Mathlib.Omega.{arith}
-use borrow.Author.Rules.{rules}
 use Rattle.block.proofs.Passing.{passed, failed, last_test, said_no, said_yes}
 use Rattle.record.proofs.Questions.{gone_tests}
 use Rattle.record.proofs.is_gone.Goals as goal

@@ -1,7 +1,6 @@
 -- `record::key_formed` meets its contract. The answer hangs on job and point. Assumes nothing.
 use mathlib.Core.Path.{refl}
 use native.Mathlib.Omega.{arith}
-use borrow.Author.Rules.{rules}
 use borrow.Author.Tests.{le-leb, lt-leb}
 use Rattle.block.proofs.Numbers.{bytes_of}
 use Rattle.block.proofs.Passing.{passed, failed, last_test}

@@ -1,5 +1,4 @@
 -- `record::key_of` meets its contract. Two fields of the block. Assumes nothing.
-use borrow.Author.Rules.{rules}
 use Rattle.numbers.specs.Numbers.{point}
 use Rattle.layout.specs.PointBlock.{decode_point}
 use Rattle.record.proofs.key_of.Goals as goal

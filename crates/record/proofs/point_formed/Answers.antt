@@ -1,7 +1,6 @@
 -- `record::point_formed` meets its contract. The answer hangs on four tests (Formed). Assumes nothing.
 use mathlib.Core.Path.{refl, ◌∙◌}
 use native.Mathlib.Omega.{arith}
-use borrow.Author.Rules.{rules}
 use Rattle.block.proofs.Numbers.{bytes_of}
 use Rattle.block.proofs.Passing.{passed, failed, last_test, said_no, said_yes}
 use Rattle.record.proofs.Formed.{point_tests}

@@ -2,7 +2,6 @@
 use mathlib.Core.Path.{ap, ◌∙◌}
 use mathlib.Core.Bool.{not}
 use native.Mathlib.Omega.{arith}
-use borrow.Author.Rules.{rules}
 use Rattle.meaning.specs.CrewTable.{holds}
 use Rattle.layout.specs.Clocks.{decode_clock}
 use Rattle.layout.specs.PointBlock.{form_1, decode_point}

@@ -1,7 +1,6 @@
 -- `record::slot_laid_out` meets its contract. By what the length byte says (LaidOut). Assumes nothing.
 use mathlib.Core.Path.{◌∙◌}
 use native.Mathlib.Omega.{arith}
-use borrow.Author.Rules.{rules}
 use Rattle.block.proofs.Numbers.{bytes_of}
 use Rattle.record.proofs.LaidOut.{slot_gap, slot_deleted, slot_value, slot_wrong}
 use Rattle.record.proofs.slot_laid_out.Goals as goal

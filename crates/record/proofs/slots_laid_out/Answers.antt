@@ -2,7 +2,7 @@
 use Prim.Native.Nat.{◌+◌, ◌*◌, ◌-◌}
 use native.Mathlib.Omega.{arith}
 use Rattle.block.specs.Fields.{cut}
-use Rattle.block.proofs.Passing.{Passing, none_passed, one_more, one_fails, all_passed, said_no, said_yes}
+use Rattle.block.proofs.Passing.{none_passed, one_more, one_fails, all_passed, said_no, said_yes}
 use Rattle.record.proofs.LaidOut.{slot_same}
 use Rattle.record.proofs.slots_laid_out.Goals as goal
 

@@ -1,8 +1,7 @@
 -- `record::slots_laid_out` meets its contract. The invariant is `Passing`: the slots before i are laid out. Assumes nothing.
 use Prim.Native.Nat.{◌+◌, ◌*◌, ◌-◌}
-use native.Mathlib.Omega.{arith}
 use Rattle.block.specs.Fields.{cut}
-use Rattle.block.proofs.Passing.{Passing, none_passed, one_more, one_fails, all_passed, said_no, said_yes}
+use Rattle.block.proofs.Passing.{Passing}
 use Rattle.record.proofs.LaidOut.{slot_same}
 use Rattle.record.proofs.slots_laid_out.Given as goal
 

@@ -1,7 +1,6 @@
 -- `record::stored_laid_out` meets its contract. A block with sender 0 that is laid out (LaidOut). Assumes nothing.
 use mathlib.Core.Path.{sym, ◌∙◌}
 use native.Mathlib.Omega.{arith}
-use borrow.Author.Rules.{rules}
 use Rattle.block.proofs.Numbers.{bytes_of}
 use Rattle.record.proofs.LaidOut.{stored_sent, stored_unsent}
 use Rattle.record.proofs.stored_laid_out.Goals as goal

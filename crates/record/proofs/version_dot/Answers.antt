@@ -1,7 +1,6 @@
 -- `record::version_dot` meets its contract. Two fields of a slot. Assumes nothing.
 use Prim.Native.Nat.{◌+◌, ◌*◌}
 use mathlib.Core.Path.{sym, ◌∙◌}
-use borrow.Author.Rules.{rules}
 use Rattle.numbers.specs.Dot.{dot}
 use Rattle.record.proofs.Reading.{slot_dot}
 use Rattle.record.proofs.version_dot.Goals as goal

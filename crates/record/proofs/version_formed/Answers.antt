@@ -1,6 +1,5 @@
 -- `record::version_formed` meets its contract. The answer hangs on three tests (Formed). Assumes nothing.
 use native.Mathlib.Omega.{arith}
-use borrow.Author.Rules.{rules}
 use Rattle.block.proofs.Numbers.{bytes_of}
 use Rattle.numbers.proofs.Controllers.{crew_is}
 use Rattle.block.proofs.Passing.{passed, failed, last_test, said_no, said_yes}

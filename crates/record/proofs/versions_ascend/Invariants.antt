@@ -1,10 +1,7 @@
 -- `record::versions_ascend` meets its contract. The invariant is `Passing`: each version before i comes before the next. Assumes nothing.
 use Prim.Native.Nat.{◌+◌, ◌-◌}
-use mathlib.Core.Path.{◌∙◌}
-use native.Mathlib.Omega.{arith}
-use Rattle.numbers.specs.Dot.{dot_before}
 use Rattle.meaning.specs.Object.{version_before}
-use Rattle.block.proofs.Passing.{Passing, none_passed, one_more, one_fails, all_passed, said_no, said_yes}
+use Rattle.block.proofs.Passing.{Passing}
 use Rattle.record.proofs.Reading.{version_at}
 use Rattle.record.proofs.versions_ascend.Given as goal
 

@@ -3,7 +3,6 @@ use Prim.Native.Nat.{◌-◌}
 use native.Mathlib.Omega.{arith}
 use Rattle.block.proofs.Numbers.{bytes_of}
 use Rattle.record_edits.proofs.Edits.{count_is, few_versions, version_inserted}
-use borrow.Author.Rules.{rules}
 use Rattle.record_edits.proofs.insert_version.Goals as goal
 
 pub overflow_sub-n : goal.overflow_sub-n

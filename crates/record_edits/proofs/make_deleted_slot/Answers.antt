@@ -2,7 +2,6 @@
 use Prim.Native.Nat.{◌-◌}
 use mathlib.Core.Path.{refl}
 use Rattle.record_edits.proofs.Stores.{deleted_made}
-use borrow.Author.Rules.{rules}
 use Rattle.record_edits.proofs.make_deleted_slot.Goals as goal
 
 pub returns : goal.returns

@@ -3,7 +3,6 @@ use Prim.Native.Nat.{◌-◌}
 use mathlib.Core.Path.{refl}
 use lib.ListN.{length}
 use Rattle.record_edits.proofs.Stores.{slot_made}
-use borrow.Author.Rules.{rules}
 use Rattle.record_edits.proofs.make_slot.Goals as goal
 
 pub returns : goal.returns

@@ -3,7 +3,6 @@ use Prim.Native.Nat.{◌-◌}
 use native.Mathlib.Omega.{arith}
 use Rattle.block.proofs.Numbers.{bytes_of}
 use Rattle.record_edits.proofs.Edits.{count_is, few_versions, version_removed}
-use borrow.Author.Rules.{rules}
 use Rattle.record_edits.proofs.remove_version.Goals as goal
 
 pub overflow_mul-at : goal.overflow_mul-at

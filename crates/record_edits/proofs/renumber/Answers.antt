@@ -1,6 +1,5 @@
 -- `record::renumber` meets its contract. The relabelled block, sealed (Edits). Assumes nothing.
 use Rattle.record_edits.proofs.Edits.{renumbered}
-use borrow.Author.Rules.{rules}
 use Rattle.record_edits.proofs.renumber.Goals as goal
 
 pub returns : goal.returns

@@ -1,7 +1,6 @@
 -- `record::write_empty` meets its contract. Its stores, one by one (Stores). Assumes nothing.
 use Prim.Native.Nat.{◌-◌}
 use Rattle.record_edits.proofs.Stores.{empty_made}
-use borrow.Author.Rules.{rules}
 use Rattle.record_edits.proofs.write_empty.Goals as goal
 
 pub returns : goal.returns

@@ -1,5 +1,4 @@
 -- `repairing::repair_at` meets its contract (Steps). Assumes nothing.
-use borrow.Author.Rules.{rules}
 use mathlib.Core.Path.{ap, sym, ◌∙◌}
 use Rattle.block.proofs.Numbers.{bytes_of}
 use Rattle.layout.specs.Calls.{After}

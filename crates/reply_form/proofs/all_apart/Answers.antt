@@ -1,5 +1,4 @@
 -- `reply_form::all_apart` meets its contract: of points that ascend, no two share a dot just where all are apart (Loops). Assumes nothing.
-use borrow.Author.Rules.{rules}
 use mathlib.Core.Path.{◌∙◌}
 use Rattle.reply_form.proofs.Loops.{apart_tests}
 use Rattle.reply_form.proofs.all_apart.Goals as goal

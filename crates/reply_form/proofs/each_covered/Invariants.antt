@@ -1,15 +1,10 @@
 -- `reply_form::each_covered` meets its contract. The invariant: the points before i are covered (Loops). Assumes nothing.
-use borrow.Author.Rules.{rules}
 use Prim.Native.Nat.{◌-◌, ◌/◌}
-use mathlib.Core.Path.{◌∙◌}
 use lib.ListN.{length}
 use Rattle.block.specs.Block.{block_at}
-use Rattle.block.proofs.Numbers.{bytes_of}
-use Rattle.block.proofs.Passing.{Passing, none_passed, one_more, one_fails, all_passed, said_no, said_yes}
-use Rattle.arriving.proofs.OfPoints.{lent_size, lent_few}
+use Rattle.block.proofs.Passing.{Passing}
 use Rattle.layout.specs.Clocks.{decode_clock}
-use Rattle.reply_form.proofs.Loops.{of_lent, covered_block, covered_tests, lent_crewed}
-use native.Mathlib.Omega.{arith}
+use Rattle.reply_form.proofs.Loops.{covered_block}
 use Rattle.reply_form.proofs.each_covered.Given as goal
 
 abbrev pub invariant-loop-i : goal.invariant-loop-i

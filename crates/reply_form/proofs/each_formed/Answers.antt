@@ -1,11 +1,8 @@
 -- `reply_form::each_formed` meets its contract. The invariant: the points before i are well-formed (Loops). Assumes nothing.
-use borrow.Author.Rules.{rules}
-use Prim.Native.Nat.{◌-◌, ◌/◌}
+use Prim.Native.Nat.{◌-◌}
 use mathlib.Core.Path.{◌∙◌}
-use lib.ListN.{length}
-use Rattle.block.specs.Block.{block_at}
 use Rattle.block.proofs.Numbers.{bytes_of}
-use Rattle.block.proofs.Passing.{Passing, none_passed, one_more, one_fails, all_passed, said_no, said_yes}
+use Rattle.block.proofs.Passing.{none_passed, one_more, one_fails, all_passed, said_no, said_yes}
 use Rattle.arriving.proofs.OfPoints.{lent_size, lent_few}
 use Rattle.reply_form.proofs.Loops.{of_lent, formed_block, formed_tests}
 use native.Mathlib.Omega.{arith}

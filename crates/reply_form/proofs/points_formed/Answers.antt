@@ -1,5 +1,4 @@
 -- `reply_form::points_formed` meets its contract. Test by test (Formed). Assumes nothing.
-use borrow.Author.Rules.{rules}
 use mathlib.Core.Path.{◌∙◌}
 use Rattle.block.proofs.Passing.{passed, failed, last_test, said_no, said_yes}
 use Rattle.layout.specs.Clocks.{decode_clock}

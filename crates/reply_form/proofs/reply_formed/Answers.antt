@@ -1,5 +1,4 @@
 -- `reply_form::reply_formed` meets its contract. The head's tests, and then the points' (Formed). Assumes nothing.
-use borrow.Author.Rules.{rules}
 use Prim.Native.Nat.{ℕ}
 use mathlib.Core.Path.{ap, sym, ◌∙◌, subst}
 use mathlib.Core.List.{List}

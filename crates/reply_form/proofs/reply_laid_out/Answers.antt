@@ -1,5 +1,4 @@
 -- `reply_form::reply_laid_out` meets its contract. The head's block, and then the points' (LaidOut). Assumes nothing.
-use borrow.Author.Rules.{rules}
 use Prim.Native.Nat.{◌≤◌}
 use mathlib.Core.Path.{ap, sym, ◌∙◌, subst}
 use mathlib.Core.List.{List}

@@ -1,5 +1,4 @@
 -- `replying::closer` meets its contract. The choice between two (Choosing). Assumes nothing.
-use borrow.Author.Rules.{rules}
 use mathlib.Core.Path.{sym, ◌∙◌}
 use borrow.Author.Tests.{not-true, not-false}
 use Rattle.replying.proofs.Choosing.{not_behind, first_found, now_nearer, still_nearer}

@@ -1,5 +1,4 @@
 -- `replying::is_for_us` meets its contract. By the parts that were lent (Judging). Assumes nothing.
-use borrow.Author.Rules.{rules}
 use mathlib.Core.Path.{ap₂}
 use Rattle.numbers.specs.declared.Controller.{Controller}
 use Rattle.numbers.specs.Numbers.{same_controller}

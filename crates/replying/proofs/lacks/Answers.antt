@@ -1,5 +1,4 @@
 -- `replying::lacks` meets its contract (Lacking). Assumes nothing.
-use borrow.Author.Rules.{rules}
 use mathlib.Core.Path.{sym, ◌∙◌}
 use Rattle.layout.specs.Clocks.{decode_clock}
 use Rattle.replying.proofs.Lacking.{has_it, has_it_not}

@@ -1,5 +1,4 @@
 -- `replying::smallest_after` meets its contract. The invariant: the entries from i on make of `best` what all make of the start (Lacking). Assumes nothing.
-use borrow.Author.Rules.{rules}
 use Prim.Native.Nat.{◌-◌}
 use mathlib.Core.Path.{ap, sym, ◌∙◌}
 use mathlib.Core.List.{List}
@@ -10,7 +9,7 @@ use Rattle.layout.specs.Clocks.{decode_clock}
 use Rattle.dots.specs.Entries.{entry}
 use Rattle.dots.proofs.Laid.{entries_are}
 use Rattle.replying.specs.Nearest.{lacks, nearest}
-use Rattle.replying.proofs.Lacking.{Looked, none_looked, one_looked, all_looked}
+use Rattle.replying.proofs.Lacking.{none_looked, one_looked, all_looked}
 use native.Mathlib.Omega.{arith}
 use Rattle.replying.proofs.smallest_after.Goals as goal
 

@@ -1,5 +1,4 @@
 -- `replying::with_entry` meets its contract (Lacking). Assumes nothing.
-use borrow.Author.Rules.{rules}
 use mathlib.Core.Path.{ap, sym, ◌∙◌, subst}
 use borrow.Author.Tests.{not-true, not-false}
 use Rattle.numbers.specs.declared.Dot.{Dot}

@@ -1,5 +1,4 @@
 -- `replying::write_point` meets its contract. Fetched, and given its place (Sending). Assumes nothing.
-use borrow.Author.Rules.{rules}
 use Rattle.layout.specs.Image.{decode}
 use Rattle.store.proofs.Lent.{good_ascends, good_canonical}
 use Rattle.replying.proofs.Sending.{point_written}

@@ -5,7 +5,7 @@ use mathlib.Core.Path.{refl}
 use Rattle.layout.specs.Image.{decode}
 use Rattle.layout.specs.Messages.{decode_ask}
 use Rattle.store.proofs.Lent.{counted, good_now}
-use Rattle.replying.proofs.Sending.{Sending, none_sent, as_long, fits_still, ends, one_fits, one_sent}
+use Rattle.replying.proofs.Sending.{none_sent, as_long, fits_still, ends, one_fits, one_sent}
 use native.Mathlib.Omega.{arith}
 use Rattle.replying.proofs.write_points.Goals as goal
 

@@ -1,12 +1,8 @@
 -- `replying::write_points` meets its contract. The invariant: so many of the points are written, and the rest lie behind the last one (Sending). Assumes nothing.
-use borrow.Author.Rules.{rules}
 use Prim.Native.Nat.{◌-◌}
-use mathlib.Core.Path.{refl}
 use Rattle.layout.specs.Image.{decode}
 use Rattle.layout.specs.Messages.{decode_ask}
-use Rattle.store.proofs.Lent.{counted, good_now}
-use Rattle.replying.proofs.Sending.{Sending, none_sent, as_long, fits_still, ends, one_fits, one_sent}
-use native.Mathlib.Omega.{arith}
+use Rattle.replying.proofs.Sending.{Sending}
 use Rattle.replying.proofs.write_points.Given as goal
 
 abbrev pub invariant-loop-k : goal.invariant-loop-k

@@ -3,7 +3,6 @@ use mathlib.Core.Path.{sym, ap}
 use native.Mathlib.Omega.{arith}
 use Rattle.row.specs.declared.Row.{Row}
 use Rattle.row.proofs.Computing.{advanced_run}
-use borrow.Author.Rules.{rules}
 use Rattle.row.proofs.advanced_row.Goals as goal
 
 pub overflow_add-result : goal.overflow_add-result

@@ -3,7 +3,6 @@ use mathlib.Core.Path.{sym}
 use native.Mathlib.Omega.{arith}
 use native.Mathlib.Nat.{div-eq_of_lt, lt_of_lt_of_le}
 use lib.Pow.{pow_mono}
-use borrow.Author.Rules.{rules}
 use Rattle.row.proofs.shifted.Goals as goal
 
 pub returns-then-by-ge64 : goal.returns-then-by-ge64

@@ -1,7 +1,6 @@
 -- `sqimrutta::sqimrutta_delete` meets its contract. The same as a number. Assumes nothing.
 use mathlib.Core.Path.{ap, ◌∙◌}
 use Rattle.refusal.specs.Refusal.{answer_number}
-use borrow.Author.Rules.{rules}
 use Rattle.sqimrutta.proofs.sqimrutta_delete.Goals as goal
 
 pub returns : goal.returns

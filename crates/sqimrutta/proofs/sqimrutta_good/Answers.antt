@@ -1,7 +1,6 @@
 use mathlib.Core.Path.{ap, sym, ◌∙◌}
 use mathlib.Core.Bool.{Bool}
 use Rattle.numbers.specs.Words.{if◌then◌else◌}
-use borrow.Author.Rules.{rules}
 use Rattle.sqimrutta.proofs.sqimrutta_good.Goals as goal
 
 pub returns-then-good : goal.returns-then-good

@@ -1,7 +1,6 @@
 -- `sqimrutta::sqimrutta_read` meets its contract: the number of the answer of `read`. Assumes nothing.
 use mathlib.Core.Path.{ap, ◌∙◌}
 use Rattle.refusal.specs.Refusal.{answer_number}
-use borrow.Author.Rules.{rules}
 use Rattle.sqimrutta.proofs.sqimrutta_read.Goals as goal
 
 pub returns : goal.returns

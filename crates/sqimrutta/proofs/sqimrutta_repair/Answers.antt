@@ -1,5 +1,4 @@
 -- `sqimrutta::sqimrutta_repair` meets its contract. The same as a number. Assumes nothing.
-use borrow.Author.Rules.{rules}
 use mathlib.Core.Path.{ap, ◌∙◌}
 use Rattle.refusal.specs.Refusal.{answer_number}
 use Rattle.sqimrutta.proofs.sqimrutta_repair.Goals as goal

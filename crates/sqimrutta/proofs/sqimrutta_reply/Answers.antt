@@ -1,5 +1,4 @@
 -- `sqimrutta::sqimrutta_reply` meets its contract: the number of the answer of `reply`, and its count. Assumes nothing.
-use borrow.Author.Rules.{rules}
 use mathlib.Core.Path.{ap, ◌∙◌}
 use Rattle.refusal.specs.Refusal.{answer_number}
 use Rattle.sqimrutta.proofs.sqimrutta_reply.Goals as goal

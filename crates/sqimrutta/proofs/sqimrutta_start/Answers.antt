@@ -1,6 +1,5 @@
 use mathlib.Core.Path.{ap, ◌∙◌}
 use Rattle.refusal.specs.Refusal.{answer_number}
-use borrow.Author.Rules.{rules}
 use Rattle.sqimrutta.proofs.sqimrutta_start.Goals as goal
 
 pub returns : goal.returns

@@ -1,7 +1,6 @@
 -- `sqimrutta::sqimrutta_strip_pass` meets its contract: the number of the answer of `strip_pass`, and its count. Assumes nothing.
 use mathlib.Core.Path.{ap, ◌∙◌}
 use Rattle.refusal.specs.Refusal.{answer_number}
-use borrow.Author.Rules.{rules}
 use Rattle.sqimrutta.proofs.sqimrutta_strip_pass.Goals as goal
 
 pub returns : goal.returns

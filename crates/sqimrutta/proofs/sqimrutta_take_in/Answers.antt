@@ -1,5 +1,4 @@
 -- `sqimrutta::sqimrutta_take_in` meets its contract. The same as a number. Assumes nothing.
-use borrow.Author.Rules.{rules}
 use mathlib.Core.Path.{ap, ◌∙◌}
 use Rattle.refusal.specs.Refusal.{answer_number}
 use Rattle.sqimrutta.proofs.sqimrutta_take_in.Goals as goal

@@ -2,7 +2,6 @@ use native.Mathlib.Omega.{arith}
 use mathlib.Core.Path.{ap, sym, ◌∙◌}
 use Rattle.layout.specs.Calls.{After}
 use Rattle.starting.proofs.Starting.{wrong_image, wrong_table, number_zero, number_large, started}
-use borrow.Author.Rules.{rules}
 use Rattle.starting.proofs.start.Goals as goal
 
 pub returns-then-image-ne34304 : goal.returns-then-image-ne34304

@@ -4,7 +4,6 @@ use mathlib.Core.Path.{refl, ap, ◌∙◌}
 use lib.ListN.{length}
 use Rattle.block.proofs.Numbers.{bytes_of}
 use Rattle.starting.proofs.Fresh.{fresh_head_length, no_dots_length, fresh_image, fresh_encoded}
-use borrow.Author.Rules.{rules}
 use Rattle.starting.proofs.write_fresh.Goals as goal
 
 pub returns : goal.returns

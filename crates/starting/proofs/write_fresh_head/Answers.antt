@@ -1,7 +1,6 @@
 use native.Mathlib.Omega.{arith}
 use Rattle.block.proofs.Numbers.{bytes_of}
 use Rattle.starting.proofs.Fresh.{fresh_head}
-use borrow.Author.Rules.{rules}
 use Rattle.starting.proofs.write_fresh_head.Goals as goal
 
 pub returns : goal.returns

@@ -1,6 +1,5 @@
 use Rattle.starting.proofs.Fresh.{no_dots}
 use native.Mathlib.Omega.{arith}
-use borrow.Author.Rules.{rules}
 use Rattle.starting.proofs.write_no_dots.Goals as goal
 
 pub returns : goal.returns

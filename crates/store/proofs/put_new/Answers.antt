@@ -1,11 +1,9 @@
 -- `store::put_new` meets its contract. Opened, written, stripped (Resulting). Assumes nothing.
 use Prim.Native.Nat.{◌-◌}
-use mathlib.Core.Path.{◌∙◌}
 use native.Mathlib.Omega.{arith}
 use Rattle.layout.specs.Clocks.{decode_clock}
 use Rattle.layout.specs.PointBlock.{form_1, decode_stored}
 use Rattle.store.proofs.Resulting.{opened_inside, written_inside, new_put}
-use borrow.Author.Rules.{rules}
 use Rattle.store.proofs.put_new.Goals as goal
 
 pub write_record-requires : goal.write_record-requires

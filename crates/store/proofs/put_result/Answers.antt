@@ -12,7 +12,6 @@ use Rattle.record_edits.proofs.Edits.{count_is, few_versions}
 use Rattle.image_edits.specs.Edits.{with_points}
 use Rattle.image_edits.proofs.Fetching.{search_ascends, search_few}
 use Rattle.store.proofs.Resulting.{result_found, same_gone, place_left, put_where_stored, put_where_new, put_nothing}
-use borrow.Author.Rules.{rules}
 use Rattle.store.proofs.put_result.Goals as goal
 
 pub find_point-requires : goal.find_point-requires

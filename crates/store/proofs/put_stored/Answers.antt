@@ -5,7 +5,6 @@ use native.Mathlib.Omega.{arith}
 use Rattle.layout.specs.Clocks.{decode_clock}
 use Rattle.layout.specs.PointBlock.{form_1, decode_stored}
 use Rattle.store.proofs.Resulting.{count_kept, stored_put}
-use borrow.Author.Rules.{rules}
 use Rattle.store.proofs.put_stored.Goals as goal
 
 pub strip_at-requires : goal.strip_at-requires

@@ -7,7 +7,6 @@ use Rattle.block.proofs.Numbers.{bytes_of}
 use Rattle.layout.specs.Clocks.{decode_clock}
 use Rattle.image_edits.proofs.Blocks.{image_decoded}
 use Rattle.store.proofs.Stripped.{count_now, lent_long, lent_few, gone_is, stays, goes}
-use borrow.Author.Rules.{rules}
 use Rattle.store.proofs.strip_at.Goals as goal
 
 pub overflow_add-at : goal.overflow_add-at

@@ -6,7 +6,6 @@ use Rattle.block.proofs.Numbers.{bytes_of}
 use Rattle.layout.specs.Clocks.{decode_clock}
 use Rattle.image_edits.proofs.Blocks.{image_decoded}
 use Rattle.store.proofs.Stripped.{record_laid, record_size, record_stripped}
-use borrow.Author.Rules.{rules}
 use Rattle.store.proofs.strip_record.Goals as goal
 
 pub overflow_add-at : goal.overflow_add-at

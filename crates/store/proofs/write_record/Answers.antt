@@ -8,7 +8,6 @@ use Rattle.block.proofs.Numbers.{bytes_of}
 use Rattle.record_edits.specs.Written.{lay_point, point_block}
 use Rattle.image_edits.proofs.Blocks.{image_decoded}
 use Rattle.store.proofs.Recorded.{copied_part, record_written}
-use borrow.Author.Rules.{rules}
 use Rattle.store.proofs.write_record.Goals as goal
 
 pub overflow_add-at : goal.overflow_add-at

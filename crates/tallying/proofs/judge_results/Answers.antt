@@ -1,5 +1,4 @@
 -- `tallying::judge_results` meets its contract (Judged). Assumes nothing.
-use borrow.Author.Rules.{rules}
 use mathlib.Core.Path.{sym, ◌∙◌}
 use Rattle.numbers.proofs.Orders.{keep_length}
 use Rattle.meaning.specs.State.{stored_before}

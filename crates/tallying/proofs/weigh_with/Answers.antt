@@ -1,5 +1,4 @@
 -- `tallying::weigh_with` meets its contract (OfPoint). Assumes nothing.
-use borrow.Author.Rules.{rules}
 use mathlib.Core.Path.{ap, ◌∙◌}
 use lib.ListN.{length}
 use lib.Dec.{ltb}

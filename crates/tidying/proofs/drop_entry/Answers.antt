@@ -1,5 +1,4 @@
 -- `tidying::drop_entry` meets its contract. All know the dot, or not all do (Dropping). Assumes nothing.
-use borrow.Author.Rules.{rules}
 use mathlib.Core.Path.{sym, ◌∙◌}
 use borrow.Author.Tests.{not-true, not-false}
 use Rattle.layout.specs.Image.{decode}

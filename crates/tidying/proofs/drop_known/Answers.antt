@@ -4,7 +4,7 @@ use mathlib.Core.Path.{refl, ◌∙◌}
 use Rattle.block.proofs.Numbers.{bytes_of}
 use Rattle.layout.specs.Image.{decode}
 use Rattle.tidying.proofs.Known.{list_count}
-use Rattle.tidying.proofs.Dropping.{Dropped, none_dropped, drop_inside, drop_crew, one_dropped, all_dropped}
+use Rattle.tidying.proofs.Dropping.{none_dropped, drop_inside, drop_crew, one_dropped, all_dropped}
 use native.Mathlib.Omega.{arith}
 use Rattle.tidying.proofs.drop_known.Goals as goal
 

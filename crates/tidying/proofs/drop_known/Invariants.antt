@@ -1,11 +1,6 @@
 -- `tidying::drop_known` meets its contract. The invariant: the entries from the i-th on are tested (Dropping). Assumes nothing.
-use borrow.Author.Rules.{rules}
-use mathlib.Core.Path.{refl, ◌∙◌}
-use Rattle.block.proofs.Numbers.{bytes_of}
 use Rattle.layout.specs.Image.{decode}
-use Rattle.tidying.proofs.Known.{list_count}
-use Rattle.tidying.proofs.Dropping.{Dropped, none_dropped, drop_inside, drop_crew, one_dropped, all_dropped}
-use native.Mathlib.Omega.{arith}
+use Rattle.tidying.proofs.Dropping.{Dropped}
 use Rattle.tidying.proofs.drop_known.Given as goal
 
 abbrev pub invariant-loop-i : goal.invariant-loop-i

@@ -1,5 +1,4 @@
 -- `tidying::known_to` meets its contract. By the table, and then by the mark (Known). Assumes nothing.
-use borrow.Author.Rules.{rules}
 use borrow.Author.Tests.{not-true, not-false}
 use Rattle.layout.specs.Image.{decode_marks}
 use Rattle.tidying.proofs.Known.{no_peer, by_mark}

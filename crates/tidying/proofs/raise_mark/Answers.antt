@@ -1,5 +1,4 @@
 -- `tidying::raise_mark` meets its contract. The mark is as high already, or it is put (Marks). Assumes nothing.
-use borrow.Author.Rules.{rules}
 use mathlib.Core.Path.{ap, subst, ◌∙◌}
 use Prim.Native.Nat.{ℕ, ◌≤◌, ◌<◌}
 use Rattle.block.proofs.Numbers.{bytes_of}

@@ -8,7 +8,7 @@ use Rattle.layout.specs.Clocks.{decode_clock}
 use Rattle.layout.specs.Image.{decode}
 use Rattle.tidying.specs.Tidied.{said_by}
 use Rattle.tidying.proofs.Marks.{decoded_square}
-use Rattle.tidying.proofs.Raising.{Raised, same_own, one_raised, all_raised}
+use Rattle.tidying.proofs.Raising.{same_own, one_raised, all_raised}
 use native.Mathlib.Omega.{arith}
 use Rattle.tidying.proofs.raise_marks.Goals as goal
 

@@ -1,15 +1,9 @@
 -- `tidying::raise_marks` meets its contract. The invariant: the marks for those below n are raised (Raising). Assumes nothing.
-use borrow.Author.Rules.{rules}
 use Prim.Native.Nat.{◌-◌}
-use mathlib.Core.Path.{refl, sym, ap, subst, ◌∙◌}
-use Rattle.numbers.specs.Numbers.{Crew, same_controller}
-use Rattle.block.proofs.Numbers.{bytes_of}
 use Rattle.layout.specs.Clocks.{decode_clock}
 use Rattle.layout.specs.Image.{decode}
 use Rattle.tidying.specs.Tidied.{said_by}
-use Rattle.tidying.proofs.Marks.{decoded_square}
-use Rattle.tidying.proofs.Raising.{Raised, same_own, one_raised, all_raised}
-use native.Mathlib.Omega.{arith}
+use Rattle.tidying.proofs.Raising.{Raised}
 use Rattle.tidying.proofs.raise_marks.Given as goal
 
 abbrev pub invariant-loop-n : goal.invariant-loop-n

@@ -1,5 +1,4 @@
 -- `uniting::new_rows` meets its contract: the rows that go in are the image's with the sender's, each sound (United). Assumes nothing.
-use borrow.Author.Rules.{rules}
 use mathlib.Core.Path.{◌≡◌, ap, sym, ◌∙◌, subst}
 use mathlib.Core.Bool.{true}
 use Rattle.row.specs.Row.{fits, sound}

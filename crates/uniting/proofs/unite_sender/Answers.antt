@@ -1,5 +1,4 @@
 -- `uniting::unite_sender` meets its contract. One row is put anew (United). Assumes nothing.
-use borrow.Author.Rules.{rules}
 use mathlib.Core.Path.{◌≡◌, sym, ◌∙◌, subst, ap₂}
 use mathlib.Core.Bool.{true}
 use Rattle.row.specs.declared.Row.{Row}

@@ -1,8 +1,7 @@
 -- `weighing::given_context` meets its contract. Assumes nothing.
-use borrow.Author.Rules.{rules}
 use Prim.Native.Nat.{◌-◌}
 use mathlib.Core.Path.{◌∙◌}
-use Rattle.merging.proofs.Eight.{Made, made_none, made_more, made_all}
+use Rattle.merging.proofs.Eight.{made_none, made_more, made_all}
 use Rattle.weighing.proofs.Contexts.{given, entry_at, context_whole}
 use native.Mathlib.Omega.{arith}
 use Rattle.weighing.proofs.given_context.Goals as goal

@@ -1,5 +1,4 @@
 -- `weighing::local_context` meets its contract. By the record that was found, or by none (Contexts). Assumes nothing.
-use borrow.Author.Rules.{rules}
 use Rattle.block.proofs.Numbers.{bytes_of}
 use Rattle.layout.specs.Image.{decode}
 use Rattle.dots.specs.declared.Found.TheVariants.{At, Before}

@@ -1,5 +1,4 @@
 -- `weighing::record_goes` meets its contract. By the record that was found, or by none (Judging). Assumes nothing.
-use borrow.Author.Rules.{rules}
 use mathlib.Core.Path.{subst}
 use Rattle.numbers.specs.declared.Key.{Key}
 use Rattle.block.specs.Fields.{upto}

@@ -1,14 +1,12 @@
 -- `writing::delete_at` meets its contract. Case by case (Steps). Assumes nothing.
 use Prim.Native.Nat.{◌-◌}
 use mathlib.Core.Path.{ap, sym, ◌∙◌}
-use native.Mathlib.Omega.{arith}
 use Rattle.numbers.specs.Words.{map}
 use Rattle.numbers.specs.Numbers.{counter}
 use Rattle.layout.specs.Image.{decode}
 use Rattle.layout.specs.Calls.{After}
 use Rattle.store.proofs.Lent.{good_now}
 use Rattle.writing.proofs.Steps.{delete_refused, delete_made}
-use borrow.Author.Rules.{rules}
 use Rattle.writing.proofs.delete_at.Goals as goal
 
 pub put_deletion-requires : goal.put_deletion-requires

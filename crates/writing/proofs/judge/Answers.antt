@@ -15,7 +15,6 @@ use Rattle.store.proofs.Resulting.{found_is}
 use Rattle.refusal.specs.Refusal.{verdict_of}
 use Rattle.writing.specs.Judged.{judged}
 use Rattle.store.proofs.Record.{record_none, lent_long, lent_few, lent_key, lent_crewed, lent_stored, lent_looked_up}
-use borrow.Author.Rules.{rules}
 use Rattle.writing.proofs.judge.Goals as goal
 
 pub find_point-requires : goal.find_point-requires

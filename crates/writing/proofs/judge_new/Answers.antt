@@ -7,7 +7,6 @@ use Rattle.layout.specs.Image.{decode}
 use Rattle.writing.proofs.Rows.{ahead, many_points, place_left}
 use Rattle.store.proofs.Record.{no_entries}
 use Rattle.writing.proofs.Judges.{ahead_is, none_stays, place_needed}
-use borrow.Author.Rules.{rules}
 use Rattle.writing.proofs.judge_new.Goals as goal
 
 pub returns-then-ahead : goal.returns-then-ahead

@@ -5,7 +5,6 @@ use Rattle.block.proofs.Numbers.{bytes_of}
 use Rattle.layout.specs.Image.{decode}
 use Rattle.store.proofs.Lent.{own_count, good_canonical}
 use Rattle.writing.proofs.Rows.{list_full, used_up, all_passed}
-use borrow.Author.Rules.{rules}
 use Rattle.writing.proofs.judge_own.Goals as goal
 
 pub returns-then-entry_count-ge60 : goal.returns-then-entry_count-ge60

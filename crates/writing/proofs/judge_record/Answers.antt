@@ -11,7 +11,6 @@ use Rattle.layout.specs.Image.{decode}
 use Rattle.writing.proofs.Rows.{ahead, many_versions, place_left}
 use Rattle.store.proofs.Record.{context_of, job_of}
 use Rattle.writing.proofs.Judges.{ahead_is, staying_is, has_place}
-use borrow.Author.Rules.{rules}
 use Rattle.writing.proofs.judge_record.Goals as goal
 
 pub returns-then-ahead : goal.returns-then-ahead

@@ -4,14 +4,12 @@ use mathlib.Core.Path.{sym, ◌∙◌, subst}
 use native.Mathlib.Omega.{arith}
 use Rattle.numbers.specs.Numbers.{Crew}
 use Rattle.block.proofs.Numbers.{bytes_of}
-use Rattle.layout.specs.Clocks.{decode_clock}
 use Rattle.layout.specs.PointBlock.{form_1, decode_stored}
 use Rattle.layout.specs.Image.{decode}
 use Rattle.store.proofs.Lent.{own_is_crew, good_canonical, good_ascends, counted, own_count}
 use Rattle.writing.proofs.Keeping.{who_is, same_list, points_ascend, points_few, kept, key_kept, rows_kept}
 use mathlib.Core.Path.{ap}
 use lib.ListN.{length}
-use borrow.Author.Rules.{rules}
 use Rattle.writing.proofs.keep_written.Goals as goal
 
 pub set_row-requires : goal.set_row-requires

@@ -1,13 +1,11 @@
 -- `writing::next_dot` meets its contract. The own number and one more than the own base. Assumes nothing.
 use Prim.Native.Nat.{ℕ, ◌-◌, ◌+◌}
-use mathlib.Core.Path.{ap, ap₂, sym, ◌∙◌}
+use mathlib.Core.Path.{ap₂, ◌∙◌}
 use native.Mathlib.Omega.{arith}
 use Rattle.numbers.specs.declared.Controller.{Controller}
-use Rattle.numbers.specs.declared.Dot.{Dot}
 use Rattle.numbers.specs.Numbers.{counter}
 use Rattle.meaning.specs.OwnSteps.{next_dot}
 use Rattle.store.proofs.Lent.{own_part}
-use borrow.Author.Rules.{rules}
 use Rattle.writing.proofs.next_dot.Goals as goal
 
 pub overflow_add-result : goal.overflow_add-result

@@ -9,7 +9,6 @@ use Rattle.layout.specs.Image.{decode}
 use Rattle.store.proofs.Lent.{good_now}
 use Rattle.writing.proofs.Accepted.{passed}
 use Rattle.writing.proofs.Down.{held_here, message_laid, points_fit, recorded_is}
-use borrow.Author.Rules.{rules}
 use Rattle.writing.proofs.put_down.Goals as goal
 
 pub write_message-requires : goal.write_message-requires

@@ -8,7 +8,6 @@ use Rattle.layout.specs.Image.{decode}
 use Rattle.layout.specs.Calls.{After}
 use Rattle.store.proofs.Lent.{good_now}
 use Rattle.writing.proofs.Steps.{write_long, write_refused, write_made}
-use borrow.Author.Rules.{rules}
 use Rattle.writing.proofs.write_at.Goals as goal
 
 pub returns-then-said-gt24 : goal.returns-then-said-gt24

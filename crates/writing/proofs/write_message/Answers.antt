@@ -9,7 +9,6 @@ use Rattle.layout.specs.Image.{decode}
 use Rattle.store.proofs.Lent.{good_now, own_is_crew, good_canonical, good_ascends, counted}
 use Rattle.writing.proofs.Keeping.{who_is}
 use Rattle.writing.proofs.Message.{filled_lent, filled_crewed, dropped_ascends, dropped_few, message_is, fetched_own, raised_own, version_own}
-use borrow.Author.Rules.{rules}
 use Rattle.writing.proofs.write_message.Goals as goal
 
 pub fetch-requires : goal.fetch-requires

@@ -3,7 +3,6 @@ use mathlib.Core.Path.{sym, ap, ◌∙◌}
 use native.Mathlib.Omega.{arith}
 use Rattle.row.specs.declared.Added.TheVariants.{Now}
 use Rattle.row.proofs.Computing.{add_up_old, add_up_far, add_up_new, raw_base}
-use borrow.Author.Rules.{rules}
 use Rattle.row.proofs.Row.add.Goals as goal
 
 pub returns-then-n-base : goal.returns-then-n-base

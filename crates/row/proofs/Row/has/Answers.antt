@@ -1,7 +1,6 @@
 -- `row::Row::has` meets its contract. Assumes nothing.
 use mathlib.Core.Path.{sym}
 use Rattle.row.proofs.Computing.{has_bit, has_low}
-use borrow.Author.Rules.{rules}
 use Rattle.row.proofs.Row.has.Goals as goal
 
 pub returns-then-base-n : goal.returns-then-base-n

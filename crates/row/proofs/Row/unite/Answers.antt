@@ -3,7 +3,6 @@ use mathlib.Core.Path.{sym, ◌∙◌}
 use native.Mathlib.Nat.{le_of_lt}
 use Rattle.row.proofs.Uniting.{unite_swap}
 use Rattle.row.proofs.Computing.{unite_up, unite_up_base}
-use borrow.Author.Rules.{rules}
 use Rattle.row.proofs.Row.unite.Goals as goal
 
 pub advanced_row-requires : goal.advanced_row-requires
