@@ -2,7 +2,7 @@
 use Prim.Native.Nat.{ℕ, suc, ◌+◌, ◌*◌, ◌-◌, ◌≤◌, ◌<◌}
 use mathlib.Core.Path.{◌≡◌, refl, ap, ap₂, sym, ◌∙◌, subst}
 use mathlib.Core.List.Memᴰ
-use mathlib.Core.List.{List, ◌∷◌, ◌++◌, append_assoc, append-nil}
+use mathlib.Core.List.{List, [], ◌∷◌, ◌++◌, append_assoc, append-nil}
 use native.Mathlib.Nat.{mul-suc, mul-add, mul-one, mul-le-mul_left}
 use native.Mathlib.Omega.{arith}
 use lib.ListN.{length, take, drop, get_or, drop_of_length-le, take-append-drop, length-append, length-take, length-drop, length-replicate, replicate-append-replicate}

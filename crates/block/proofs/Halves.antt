@@ -1,7 +1,7 @@
 -- A field is two halves, the lower one first: as it is read and as it is written, over the sizes of the halves. Assumes nothing.
 use Prim.Native.Nat.{ℕ, zero, suc, ◌+◌, ◌*◌, ◌/◌, ◌%◌, ◌^◌, ◌≤◌, ◌<◌}
 use mathlib.Core.Path.{◌≡◌, refl, ap, sym, ◌∙◌}
-use mathlib.Core.List.{List, ◌∷◌, ◌++◌}
+use mathlib.Core.List.{List, [], ◌∷◌, ◌++◌}
 use native.Mathlib.Nat.{pow-zero, pow-succ', one-le-pow, mul_assoc, zero-add, suc-add, mod-lt, mod-eq_of_lt, mod-add-div, le_of_suc-le-suc}
 use native.Mathlib.Omega.{arith}
 use lib.ListN.{length, take, drop, get_or, set}

@@ -2,6 +2,7 @@
 use mathlib.Core.Path.{◌≡◌, refl, ◌∙◌}
 use mathlib.Core.Bool.{true}
 use mathlib.Core.List.Memᴰ
+use mathlib.Core.List.{[]}
 use native.Mathlib.Omega.{arith}
 use Rattle.numbers.specs.declared.Controller.{Controller}
 use Rattle.numbers.proofs.Tests.{◌∈◌, here, there}

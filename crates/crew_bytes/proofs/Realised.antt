@@ -3,7 +3,7 @@
 use Prim.Native.Nat.{ℕ, ◌≤◌}
 use mathlib.Core.Path.{◌≡◌, refl, sym, ap, ◌∙◌, subst}
 use mathlib.Core.Bool.{Bool, true, ◌&&◌, not}
-use mathlib.Core.List.{List, ◌∷◌}
+use mathlib.Core.List.{List, [], ◌∷◌}
 use native.Mathlib.Nat.{le_refl}
 use lib.ListN.{length, length-replicate}
 use lib.Dec.{leb, eqb}

@@ -4,7 +4,7 @@ use mathlib.Core.Path.{◌≡◌, refl, ap, sym, ◌∙◌, subst}
 use mathlib.Core.Logic.{inl, ⊎_elim}
 use mathlib.Core.Bool.{Bool, false, ◌&&◌, not}
 use mathlib.Core.List.Memᴰ
-use mathlib.Core.List.{List}
+use mathlib.Core.List.{List, []}
 use lib.ListN.{length, take}
 use borrow.Author.Tests.{not-true}
 use Rattle.numbers.specs.declared.Dot.{Dot}

@@ -1,7 +1,7 @@
 -- The definition of take in, case by case. Assumes nothing.
 use Prim.Native.Nat.{ℕ}
 use mathlib.Core.Path.{◌≡◌, ap}
-use mathlib.Core.List.{List}
+use mathlib.Core.List.{List, []}
 use Rattle.refusal.specs.declared.Verdict.TheVariants.{Accepted, Refused}
 use Rattle.refusal.specs.declared.Refusal.{Refusal}
 use Rattle.refusal.specs.Refusal.{Answer, verdict_of}

@@ -4,7 +4,7 @@ use mathlib.Core.Path.{◌≡◌, refl, ap, ◌∙◌, subst}
 use mathlib.Core.Logic.{⊎_elim, ⊎_map}
 use mathlib.Core.Bool.{Bool, true, not}
 use mathlib.Core.List.Memᴰ
-use mathlib.Core.List.{List, ◌∷◌, ◌++◌}
+use mathlib.Core.List.{List, [], ◌∷◌, ◌++◌}
 use lib.ListN.{length, get_or}
 use Rattle.numbers.specs.declared.Dot.{Dot}
 use Rattle.numbers.specs.Words.{all?, place, place_all}

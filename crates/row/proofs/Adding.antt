@@ -5,7 +5,7 @@ use mathlib.Core.Logic.Iff
 use mathlib.Core.Logic.{◌⊎◌, inl, inr, ◌↔◌, ⊎_elim, ⊎_map}
 use mathlib.Core.Bool.{true}
 use mathlib.Core.List.Memᴰ
-use mathlib.Core.List.{List, ◌∷◌}
+use mathlib.Core.List.{List, [], ◌∷◌}
 use native.Mathlib.Nat.{le_refl, div_self, div-eq_of_lt}
 use native.Mathlib.Omega.{arith}
 use lib.Pow.{pow-add, pow_pos, pow-lt, shl-shr}

@@ -4,7 +4,7 @@ use mathlib.Core.Path.{◌≡◌, refl, ap, ap₂, sym, ◌∙◌, subst}
 use mathlib.Core.Logic.{⊎_elim}
 use mathlib.Core.Bool.{true}
 use mathlib.Core.List.Memᴰ
-use mathlib.Core.List.{List, ◌∷◌}
+use mathlib.Core.List.{List, [], ◌∷◌}
 use native.Mathlib.Omega.{arith}
 use native.Mathlib.Nat.{le_refl}
 use lib.ListN.{length}

@@ -1,7 +1,7 @@
 -- The state after a write or a delete, edit by edit: the own row, the own list, the record. Assumes nothing.
 use mathlib.Core.Path.{◌≡◌}
 use mathlib.Core.Bool.{true}
-use mathlib.Core.List.{◌∷◌}
+use mathlib.Core.List.{[], ◌∷◌}
 use Rattle.numbers.specs.declared.Key.{Key}
 use Rattle.meaning.specs.CrewTable.{holds}
 use Rattle.meaning.specs.Context.{Context}

@@ -1,6 +1,6 @@
 -- `listing::put_hex_byte` meets its contract: two digits. Assumes nothing.
 use Rattle.listing.proofs.Putting.{◌then◌, as_text}
-use mathlib.Core.List.{◌∷◌}
+use mathlib.Core.List.{[], ◌∷◌}
 use native.Mathlib.Omega.{arith}
 use Rattle.listing.proofs.put_hex_byte.Goals as goal
 

@@ -1,5 +1,5 @@
 -- `listing::put_refused` meets its contract. Assumes nothing.
-use mathlib.Core.List.{◌∷◌, ◌++◌}
+use mathlib.Core.List.{[], ◌∷◌, ◌++◌}
 use native.Mathlib.Omega.{arith}
 use mathlib.Core.Path.{ap}
 use Prim.Native.Nat.{ℕ}

@@ -1,5 +1,6 @@
 -- `taking::take_in_at` meets its contract. Assumes nothing.
 use mathlib.Core.Path.{ap, sym, ◌∙◌}
+use mathlib.Core.List.{[]}
 use Rattle.refusal.specs.Refusal.{Answer, accepted}
 use Rattle.meaning.specs.State.{State}
 use Rattle.layout.specs.Image.{encode, decode}

@@ -1,6 +1,6 @@
 -- `taking::take_in_with` meets its contract (Steps, Ready). Assumes nothing.
 use mathlib.Core.Path.{refl, ap, sym, ◌∙◌}
-use mathlib.Core.List.{◌∷◌}
+use mathlib.Core.List.{[], ◌∷◌}
 use Rattle.block.proofs.Numbers.{bytes_of}
 use Rattle.meaning.specs.State.{Stored}
 use Rattle.meaning.specs.Settle.{settle}
