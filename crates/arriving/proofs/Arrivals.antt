@@ -1,4 +1,5 @@
 -- Which versions of a message arrive, as the code tests it: by the filled local entry. Assumes nothing.
+use Rattle.std.specs.Prelude.{if◌then◌else◌}
 use Prim.Native.Nat.{ℕ, ◌+◌, ◌*◌, ◌-◌, ◌<◌, ◌≤◌, max}
 use mathlib.Core.Path.{◌≡◌, refl, ap, ap₂, sym, ◌∙◌, subst}
 use mathlib.Core.Bool.{Bool, true, false, ◌&&◌}
@@ -11,7 +12,7 @@ use Rattle.numbers.specs.declared.Controller.{Controller}
 use Rattle.numbers.specs.declared.Counter.{Counter}
 use Rattle.numbers.specs.declared.Dot.{Dot}
 use Rattle.numbers.specs.declared.Key.{Key}
-use Rattle.numbers.specs.Words.{if◌then◌else◌, cons_if, keep, ascends?, map, concat_map, fold}
+use Rattle.numbers.specs.Words.{cons_if, keep, ascends?, map, concat_map, fold}
 use Rattle.numbers.specs.Numbers.{counter, last_counter, same_controller, Crew}
 use Rattle.numbers.proofs.Tests.{by_test, and_right}
 use Rattle.block.specs.Fields.{cut, field}

@@ -1,4 +1,5 @@
 -- The rows of eight controllers, one after the other, each with the counters that arrive. Assumes nothing.
+use Rattle.std.specs.Prelude.{if◌then◌else◌}
 use Prim.Native.Nat.{ℕ, ◌+◌, ◌-◌, ◌*◌, ◌≤◌, ◌<◌}
 use mathlib.Core.Path.{◌≡◌, refl, ap, sym, ◌∙◌, subst}
 use mathlib.Core.Bool.{Bool, true, false}
@@ -8,7 +9,7 @@ use lib.ListN.{length}
 use borrow.Author.Tests.{ne_eqb, eqb-false}
 use Rattle.numbers.specs.declared.Controller.{Controller}
 use Rattle.numbers.specs.declared.Counter.{Counter}
-use Rattle.numbers.specs.Words.{if◌then◌else◌, fold}
+use Rattle.numbers.specs.Words.{fold}
 use Rattle.numbers.specs.Numbers.{controller, same_controller, each, Crew}
 use Rattle.numbers.proofs.Tests.{by_test, never}
 use Rattle.numbers.proofs.Controllers.{same_controllers}

@@ -1,5 +1,6 @@
 -- Counters tried one after the other, in passes: where none is left over, all are in; where one is and the base did not go up, the whole would
 -- not fit. Assumes nothing.
+use Rattle.std.specs.Prelude.{if◌then◌else◌}
 use Prim.Native.Nat.{ℕ, ◌+◌, ◌≤◌, ◌<◌}
 use mathlib.Core.Path.{◌≡◌, refl, ap, sym, ◌∙◌, subst}
 use mathlib.Core.Logic.{◌⊎◌, inl, inr, ⊎_elim, ⊎_map}
@@ -11,7 +12,7 @@ use native.Mathlib.Omega.{arith}
 use lib.Dec.{leb}
 use borrow.Author.Tests.{leb-true, leb-false}
 use Rattle.numbers.specs.declared.Counter.{Counter}
-use Rattle.numbers.specs.Words.{if◌then◌else◌, fold}
+use Rattle.numbers.specs.Words.{fold}
 use Rattle.numbers.specs.Numbers.{counter, last_counter}
 use Rattle.numbers.proofs.Tests.{by_test, never, ◌∈◌, here, there}
 use Rattle.row.specs.declared.Row.{Row}

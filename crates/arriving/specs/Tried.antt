@@ -1,7 +1,7 @@
 -- The counters that arrive, tried one after the other on a row of 64 bits. Assumes nothing.
-use Rattle.std.specs.Prelude.{true, List}
+use Rattle.std.specs.Prelude.{true, List, if◌then◌else◌}
 use Rattle.numbers.specs.declared.Counter.{Counter}
-use Rattle.numbers.specs.Words.{if◌then◌else◌, fold}
+use Rattle.numbers.specs.Words.{fold}
 use Rattle.row.specs.declared.Row.{Row}
 use Rattle.row.specs.declared.Added.{Added}
 use Rattle.row.specs.declared.Added.TheVariants.{Now, TooFar}

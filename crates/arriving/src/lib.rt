@@ -1,8 +1,8 @@
 // What a message's points bring to an image: which of their versions arrive, what the clock would be, and whether they may be taken at all.
 #![tactic(auto)]
 
-ghost use Rattle.std.specs.Prelude.{◌≡◌, true, false, ◌&&◌, ◌-◌, ◌≤◌, length, ltb};
-ghost use Rattle.numbers.specs.Words.{if◌then◌else◌, ascends?, fold};
+ghost use Rattle.std.specs.Prelude.{◌≡◌, true, false, ◌&&◌, ◌-◌, ◌≤◌, length, ltb, if◌then◌else◌};
+ghost use Rattle.numbers.specs.Words.{ascends?, fold};
 ghost use Rattle.numbers.specs.Numbers.{same_controller, Crew};
 ghost use Rattle.block.specs.Fields.{field, put_at};
 ghost use Rattle.row.specs.Row.{add, fits, sound};

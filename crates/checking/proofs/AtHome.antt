@@ -1,12 +1,13 @@
 -- "No dot stands in two records": where the record of a message's point has a version's dot it settles whether that version clashes, and elsewhere
 -- whoever has the dot clashes. Assumes nothing.
+use Rattle.std.specs.Prelude.{if◌then◌else◌}
 use Prim.Native.Nat.{ℕ}
 use mathlib.Core.Path.{◌≡◌, ap, sym, ◌∙◌, subst}
 use mathlib.Core.Bool.{Bool, true, false, ◌&&◌, not}
 use mathlib.Core.List.{List}
 use lib.ListN.{get_or}
 use Rattle.numbers.specs.declared.Key.{Key}
-use Rattle.numbers.specs.Words.{if◌then◌else◌, some?}
+use Rattle.numbers.specs.Words.{some?}
 use Rattle.numbers.specs.Dot.{same_dot, dot_before}
 use Rattle.numbers.specs.Key.{same_key}
 use Rattle.numbers.proofs.Tests.{by_test, never, same_test, and_left, and_one, not-true, ◌∈◌}

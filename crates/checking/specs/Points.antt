@@ -1,9 +1,9 @@
 -- What rows 9 and 10 of the table ask of one point of a message. Assumes nothing.
-use Rattle.std.specs.Prelude.{ℕ, Bool, true, ◌&&◌, ◌||◌, not, List, ltb}
+use Rattle.std.specs.Prelude.{ℕ, Bool, true, ◌&&◌, ◌||◌, not, List, ltb, if◌then◌else◌}
 use Rattle.numbers.specs.declared.Controller.{Controller}
 use Rattle.numbers.specs.declared.Dot.{Dot}
 use Rattle.numbers.specs.declared.Key.{Key}
-use Rattle.numbers.specs.Words.{if◌then◌else◌, some?}
+use Rattle.numbers.specs.Words.{some?}
 use Rattle.numbers.specs.Numbers.{same_controller}
 use Rattle.numbers.specs.Dot.{same_dot}
 use Rattle.numbers.specs.Key.{same_key}

@@ -1,11 +1,12 @@
 -- What is found under a key after storing. Assumes nothing.
+use Rattle.std.specs.Prelude.{if◌then◌else◌}
 use mathlib.Core.Path.{◌≡◌, refl, sym, ◌∙◌, subst}
 use mathlib.Core.Logic.{◌⊎◌, inl, inr, ⊎_elim, ⊎_map}
 use mathlib.Core.Bool.{true, false}
 use mathlib.Core.List.Memᴰ
 use mathlib.Core.List.{List, [], ◌∷◌}
 use Rattle.numbers.specs.declared.Key.{Key}
-use Rattle.numbers.specs.Words.{if◌then◌else◌, place, fold}
+use Rattle.numbers.specs.Words.{place, fold}
 use Rattle.numbers.specs.Key.{same_key, key_before}
 use Rattle.numbers.proofs.Tests.{by_test, ◌∈◌, here, there}
 use Rattle.numbers.proofs.Orders.{Ascends, ascends_first, ascends_rest}

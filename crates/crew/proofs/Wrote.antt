@@ -1,4 +1,5 @@
 -- A write keeps what a controller knows, and adds itself. Assumes nothing.
+use Rattle.std.specs.Prelude.{if◌then◌else◌}
 use Prim.Native.Nat.{◌+◌, ◌≤◌, ◌<◌}
 use mathlib.Core.Path.{◌≡◌, refl, sym, ap, ◌∙◌, subst}
 use mathlib.Core.Logic.{◌⊎◌, inl, inr, ⊎_elim, ⊎_map}
@@ -13,7 +14,7 @@ use Rattle.numbers.specs.declared.Controller.{Controller}
 use Rattle.numbers.specs.declared.Counter.{Counter}
 use Rattle.numbers.specs.declared.Dot.{Dot}
 use Rattle.numbers.specs.declared.Key.{Key}
-use Rattle.numbers.specs.Words.{if◌then◌else◌, keep, place}
+use Rattle.numbers.specs.Words.{keep, place}
 use Rattle.numbers.specs.Numbers.{counter, last_counter, same_controller, controllers}
 use Rattle.numbers.proofs.Tests.{by_test, never, not-true, ◌∈◌}
 use Rattle.numbers.proofs.Lists.{in_keep, keep_in, none_in, Tied, in_place, place_here, place_there}

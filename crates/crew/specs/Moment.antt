@@ -1,10 +1,10 @@
 -- A crew at one moment: every controller's state, what each has seen, and every message ever written. Assumes nothing.
 -- Of the calls only the names stand here: what each does is document 01's, in crate meaning. Images and bytes do not come in.
-use Rattle.std.specs.Prelude.{Bool, true, false}
+use Rattle.std.specs.Prelude.{Bool, true, false, if◌then◌else◌}
 use mathlib.Core.List.{List, [], ◌∷◌, ◌++◌, Memᴰ}
 use Rattle.numbers.specs.declared.Controller.{Controller}
 use Rattle.numbers.specs.declared.Key.{Key}
-use Rattle.numbers.specs.Words.{if◌then◌else◌, keep, some?}
+use Rattle.numbers.specs.Words.{keep, some?}
 use Rattle.numbers.specs.Numbers.{same_controller}
 use Rattle.numbers.specs.Key.{same_key}
 use Rattle.meaning.specs.CrewTable.{CrewTable}

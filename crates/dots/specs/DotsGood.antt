@@ -1,7 +1,7 @@
 -- The clauses of a good state that speak of one list of dots, own or foreign. Assumes nothing.
-use Rattle.std.specs.Prelude.{Bool, not, List, [], ◌∷◌}
+use Rattle.std.specs.Prelude.{Bool, not, List, [], ◌∷◌, if◌then◌else◌}
 use Rattle.numbers.specs.declared.Controller.{Controller}
-use Rattle.numbers.specs.Words.{if◌then◌else◌, every, all?, ascends?}
+use Rattle.numbers.specs.Words.{every, all?, ascends?}
 use Rattle.numbers.specs.Numbers.{same_controller}
 use Rattle.meaning.specs.CrewTable.{CrewTable, holds}
 use Rattle.meaning.specs.Clock.{Clock, in_clock}

@@ -1,8 +1,8 @@
 -- The entries of a dots block one by one, what is asked of each, and what a search finds. Assumes nothing.
-use Rattle.std.specs.Prelude.{ℕ, ◌+◌, ◌*◌, ◌≤◌, ◌<◌, ◌≡◌, Bool, true, not, List, [], ◌∷◌, length, take, drop, get_or}
+use Rattle.std.specs.Prelude.{ℕ, ◌+◌, ◌*◌, ◌≤◌, ◌<◌, ◌≡◌, Bool, true, not, List, [], ◌∷◌, length, take, drop, get_or, if◌then◌else◌}
 use Rattle.numbers.specs.declared.Controller.{Controller}
 use Rattle.numbers.specs.declared.Dot.{Dot}
-use Rattle.numbers.specs.Words.{if◌then◌else◌, every, all?}
+use Rattle.numbers.specs.Words.{every, all?}
 use Rattle.numbers.specs.Numbers.{same_controller}
 use Rattle.numbers.specs.Dot.{dot, dot_before}
 use Rattle.numbers.specs.Key.{key}

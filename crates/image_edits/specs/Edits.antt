@@ -1,6 +1,5 @@
 -- Edits of the image: it says another state, and is laid out still. Assumes nothing.
-use Rattle.std.specs.Prelude.{ℕ, ◌≡◌, List, true, false, eqb}
-use Rattle.numbers.specs.Words.{if◌then◌else◌}
+use Rattle.std.specs.Prelude.{ℕ, ◌≡◌, List, true, false, eqb, if◌then◌else◌}
 use Rattle.meaning.specs.State.{Stored, Listed, State}
 use Rattle.layout.specs.Image.{Head, encode, decode}
 

@@ -1,4 +1,5 @@
 -- The clock after dots have entered it and after a row was united, row by row. Assumes nothing.
+use Rattle.std.specs.Prelude.{if◌then◌else◌}
 use Prim.Native.Nat.{◌+◌, ◌≤◌, ◌<◌}
 use mathlib.Core.Path.{◌≡◌, refl, sym, ap, ◌∙◌, subst}
 use mathlib.Core.Logic.{◌⊎◌, inl, inr, ◌↔◌, ⊎_elim}
@@ -13,7 +14,7 @@ use borrow.Author.Tests.{leb-true, leb-false}
 use Rattle.numbers.specs.declared.Controller.{Controller}
 use Rattle.numbers.specs.declared.Counter.{Counter}
 use Rattle.numbers.specs.declared.Dot.{Dot}
-use Rattle.numbers.specs.Words.{if◌then◌else◌, cons_if, fold}
+use Rattle.numbers.specs.Words.{cons_if, fold}
 use Rattle.numbers.specs.Numbers.{is_counter, same_controller, each}
 use Rattle.numbers.proofs.Tests.{by_test, never, ◌∈◌, here, there}
 use Rattle.numbers.proofs.Controllers.{Crew, at_each, each_same, each_entry, same_controllers, controller_itself}

@@ -1,5 +1,6 @@
 -- The states that storing does not make: a fresh one, one after a strip pass, and one whose watermark and lists a repair has tidied.
 -- Each is good. Assumes nothing.
+use Rattle.std.specs.Prelude.{if◌then◌else◌}
 use Prim.Native.Nat.{ℕ, ◌-◌, ◌≤◌, max}
 use mathlib.Core.Path.{◌≡◌, refl, sym, ap, ◌∙◌, subst}
 use mathlib.Core.Logic.{⊎_elim}
@@ -10,7 +11,7 @@ use native.Mathlib.Omega.{arith}
 use native.Mathlib.Nat.{le_trans}
 use lib.ListN.{length, get_or}
 use Rattle.numbers.specs.declared.Controller.{Controller}
-use Rattle.numbers.specs.Words.{if◌then◌else◌, keep, fold}
+use Rattle.numbers.specs.Words.{keep, fold}
 use Rattle.numbers.specs.Numbers.{last_counter, is_controller, same_controller, each}
 use Rattle.numbers.proofs.Tests.{by_test, never, and_left, and_right, and_both, or_inl, ◌∈◌}
 use Rattle.numbers.proofs.Lists.{in_left, in_right, in_keep}

@@ -1,8 +1,8 @@
 -- "An image is 67 blocks, 34,304 bytes: head, own dots, foreign dots, then points ascending by job and point, then blocks of zeros."
 -- Assumes nothing.
-use Rattle.std.specs.Prelude.{ℕ, ◌+◌, ◌*◌, ◌-◌, Bool, true, false, ◌&&◌, not, List, [], ◌∷◌, ◌++◌, length, take, eqb}
+use Rattle.std.specs.Prelude.{ℕ, ◌+◌, ◌*◌, ◌-◌, Bool, true, false, ◌&&◌, not, List, [], ◌∷◌, ◌++◌, length, take, eqb, if◌then◌else◌}
 use Rattle.numbers.specs.declared.Controller.{Controller}
-use Rattle.numbers.specs.Words.{if◌then◌else◌, map, concat_map, same_list}
+use Rattle.numbers.specs.Words.{map, concat_map, same_list}
 use Rattle.numbers.specs.Numbers.{controller}
 use Rattle.numbers.specs.Dot.{dot}
 use Rattle.numbers.specs.Key.{key}

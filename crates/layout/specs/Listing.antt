@@ -1,9 +1,9 @@
 -- The printed text of an image. Assumes nothing.
 -- "A first line gives own number, stored points, own and foreign dots; then a line per version: job, point, dot, value in lower-case hex,
 -- `-` for an empty value or `deleted`."
-use Rattle.std.specs.Prelude.{ℕ, zero, suc, ◌+◌, ◌/◌, ◌%◌, List, [], ◌∷◌, ◌++◌, Bool, true, false, length, ltb, eqb}
+use Rattle.std.specs.Prelude.{ℕ, zero, suc, ◌+◌, ◌/◌, ◌%◌, List, [], ◌∷◌, ◌++◌, Bool, true, false, length, ltb, eqb, if◌then◌else◌}
 use Rattle.numbers.specs.declared.Key.{Key}
-use Rattle.numbers.specs.Words.{if◌then◌else◌, concat_map}
+use Rattle.numbers.specs.Words.{concat_map}
 use Rattle.refusal.specs.declared.Refusal.{Refusal}
 use Rattle.refusal.specs.declared.Refusal.TheVariants.{WrongLength, ImageNotGood}
 use Rattle.refusal.specs.Refusal.{number}

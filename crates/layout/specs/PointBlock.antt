@@ -1,8 +1,8 @@
 -- "Kind 3, stored point; 4, outgoing; 7, reading." Over the form, which says how long a value may be. Assumes nothing.
-use Rattle.std.specs.Prelude.{ℕ, ◌+◌, ◌*◌, Bool, true, false, List, [], ◌++◌, length, take, eqb}
+use Rattle.std.specs.Prelude.{ℕ, ◌+◌, ◌*◌, Bool, true, false, List, [], ◌++◌, length, take, eqb, if◌then◌else◌}
 use Rattle.numbers.specs.declared.Controller.{Controller}
 use Rattle.numbers.specs.declared.Key.{Key}
-use Rattle.numbers.specs.Words.{if◌then◌else◌, concat_map}
+use Rattle.numbers.specs.Words.{concat_map}
 use Rattle.numbers.specs.Numbers.{controller, counter}
 use Rattle.numbers.specs.Dot.{dot}
 use Rattle.numbers.specs.Key.{key}

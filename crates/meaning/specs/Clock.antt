@@ -1,8 +1,8 @@
 -- The clock: "a row per controller". Assumes nothing.
-use Rattle.std.specs.Prelude.{ℕ, ◌-◌, Bool, List, get_or}
+use Rattle.std.specs.Prelude.{ℕ, ◌-◌, Bool, List, get_or, if◌then◌else◌}
 use Rattle.numbers.specs.declared.Controller.{Controller}
 use Rattle.numbers.specs.declared.Dot.{Dot}
-use Rattle.numbers.specs.Words.{if◌then◌else◌, all?}
+use Rattle.numbers.specs.Words.{all?}
 use Rattle.numbers.specs.Numbers.{same_controller, each, controllers}
 use Rattle.row.specs.declared.Row.{Row}
 use Rattle.row.specs.Row.{none_seen, has, add, unite}

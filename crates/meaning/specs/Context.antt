@@ -1,9 +1,9 @@
 -- Contexts: "one counter per controller, 0 for none". Assumes nothing.
-use Rattle.std.specs.Prelude.{ℕ, ◌-◌, max, Bool, List, get_or, leb, eqb}
+use Rattle.std.specs.Prelude.{ℕ, ◌-◌, max, Bool, List, get_or, leb, eqb, if◌then◌else◌}
 use Rattle.numbers.specs.declared.Controller.{Controller}
 use Rattle.numbers.specs.declared.Counter.{Counter}
 use Rattle.numbers.specs.declared.Dot.{Dot}
-use Rattle.numbers.specs.Words.{if◌then◌else◌, all?}
+use Rattle.numbers.specs.Words.{all?}
 use Rattle.numbers.specs.Numbers.{counter, each}
 use Rattle.meaning.specs.CrewTable.{CrewTable, holds}
 use Rattle.meaning.specs.Clock.{Clock, row}

@@ -1,9 +1,9 @@
 -- Take in, ask, reply, repair: what a controller does with another's message. Assumes nothing.
 -- Refusals 1 to 3 are judged on bytes; the tests here begin with 4.
-use Rattle.std.specs.Prelude.{ℕ, max, Bool, ◌&&◌, ◌||◌, not, List, [], ◌∷◌, length, leb, ltb}
+use Rattle.std.specs.Prelude.{ℕ, max, Bool, ◌&&◌, ◌||◌, not, List, [], ◌∷◌, length, leb, ltb, if◌then◌else◌}
 use Rattle.numbers.specs.declared.Controller.{Controller}
 use Rattle.numbers.specs.declared.Key.{Key}
-use Rattle.numbers.specs.Words.{if◌then◌else◌, keep, some?, all?, place_all, map}
+use Rattle.numbers.specs.Words.{keep, some?, all?, place_all, map}
 use Rattle.numbers.specs.Numbers.{is_controller, same_controller, each, controllers}
 use Rattle.numbers.specs.Dot.{same_dot}
 use Rattle.numbers.specs.Key.{same_key, key_before}

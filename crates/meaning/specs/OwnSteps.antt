@@ -1,9 +1,9 @@
 -- Start, read, write, delete, strip pass: what a controller does by itself. Assumes nothing.
-use Rattle.std.specs.Prelude.{ℕ, ◌+◌, ◌-◌, Bool, ◌&&◌, not, List, [], ◌∷◌, length, leb, ltb}
+use Rattle.std.specs.Prelude.{ℕ, ◌+◌, ◌-◌, Bool, ◌&&◌, not, List, [], ◌∷◌, length, leb, ltb, if◌then◌else◌}
 use Rattle.numbers.specs.declared.Controller.{Controller}
 use Rattle.numbers.specs.declared.Dot.{Dot}
 use Rattle.numbers.specs.declared.Key.{Key}
-use Rattle.numbers.specs.Words.{if◌then◌else◌, keep, some?, place, fold}
+use Rattle.numbers.specs.Words.{keep, some?, place, fold}
 use Rattle.numbers.specs.Numbers.{counter, last_counter, is_controller, same_controller, each, controllers}
 use Rattle.numbers.specs.Key.{is_key}
 use Rattle.refusal.specs.declared.Refusal.TheVariants.{OutOfRange, ValueTooLong, ContextAhead, OwnListFull, CountersUsedUp}

@@ -3,9 +3,9 @@
 -- repair the sender's row is united too, and only then are the results stripped, with that new clock. Other records are not
 -- touched." Document 001 "strips before adding dots and before uniting the sender's row. It lists dots anew at each store"; here a dot is
 -- listed once, when it is new to the clock.
-use Rattle.std.specs.Prelude.{ℕ, ◌-◌, Bool, not, List, [], length, take, ltb}
+use Rattle.std.specs.Prelude.{ℕ, ◌-◌, Bool, not, List, [], length, take, ltb, if◌then◌else◌}
 use Rattle.numbers.specs.declared.Key.{Key}
-use Rattle.numbers.specs.Words.{if◌then◌else◌, keep, some?, place, place_all, fold}
+use Rattle.numbers.specs.Words.{keep, some?, place, place_all, fold}
 use Rattle.numbers.specs.Numbers.{same_controller}
 use Rattle.numbers.specs.Key.{same_key}
 use Rattle.refusal.specs.declared.Refusal.TheVariants.{RowTooFar, TooManyVersions, TooManyPoints}

@@ -1,9 +1,9 @@
 -- "What a controller remembers." Assumes nothing.
-use Rattle.std.specs.Prelude.{ℕ, ◌-◌, Bool, ◌||◌, List, [], ◌∷◌, ◌++◌, get_or}
+use Rattle.std.specs.Prelude.{ℕ, ◌-◌, Bool, ◌||◌, List, [], ◌∷◌, ◌++◌, get_or, if◌then◌else◌}
 use Rattle.numbers.specs.declared.Controller.{Controller}
 use Rattle.numbers.specs.declared.Dot.{Dot}
 use Rattle.numbers.specs.declared.Key.{Key}
-use Rattle.numbers.specs.Words.{if◌then◌else◌, map, concat_map}
+use Rattle.numbers.specs.Words.{map, concat_map}
 use Rattle.numbers.specs.Numbers.{same_controller}
 use Rattle.numbers.specs.Dot.{dot_before}
 use Rattle.numbers.specs.Key.{same_key, key_before}

@@ -1,4 +1,5 @@
 -- The results that marks choose: those that a test chooses, one mark after the other. Assumes nothing.
+use Rattle.std.specs.Prelude.{if◌then◌else◌}
 use Prim.Native.Nat.{ℕ, zero, suc, ◌+◌, ◌<◌}
 use mathlib.Core.Path.{◌≡◌, refl, ap, sym, ◌∙◌}
 use mathlib.Core.Logic.{⊎_elim}
@@ -10,7 +11,7 @@ use native.Mathlib.Numerals.{add-one}
 use native.Mathlib.Omega.{arith}
 use lib.ListN.{length, take, drop, get_or}
 use lib.Dec.{eqb}
-use Rattle.numbers.specs.Words.{if◌then◌else◌, cons_if, keep, map, ascends?}
+use Rattle.numbers.specs.Words.{cons_if, keep, map, ascends?}
 use Rattle.numbers.specs.Key.{same_key}
 use Rattle.numbers.proofs.Tests.{by_test}
 use Rattle.numbers.proofs.Orders.{ascends_rest}

@@ -1,5 +1,6 @@
 -- One pass over the points of a reply: a point that is merged later finds its local object as it was, since the points of a reply are all different.
 -- So each result is the one that the state before the pass gives. Assumes nothing.
+use Rattle.std.specs.Prelude.{if◌then◌else◌}
 use Prim.Native.Nat.{ℕ, zero, suc, ◌+◌, ◌/◌, ◌≤◌, ◌<◌}
 use mathlib.Core.Path.{◌≡◌, refl, ap, sym, ◌∙◌, subst}
 use mathlib.Core.Bool.{Bool, true, false}
@@ -8,7 +9,7 @@ use native.Mathlib.Nat.{le_of_suc-le-suc}
 use native.Mathlib.Omega.{arith}
 use lib.ListN.{length, take, get_or}
 use lib.Dec.{eqb}
-use Rattle.numbers.specs.Words.{if◌then◌else◌, map, ascends?, fold}
+use Rattle.numbers.specs.Words.{map, ascends?, fold}
 use Rattle.numbers.proofs.Lists.{map_length}
 use Rattle.block.specs.Block.{Laid, block_at}
 use Rattle.block.proofs.Arrays.{upto_length, upto_at}

@@ -1,6 +1,6 @@
 -- The points of a reply, each filled with the sender's clock and merged with the local one: the results of a repair. Assumes nothing.
-use Rattle.std.specs.Prelude.{ℕ, ◌/◌, ◌≤◌, ◌<◌, ◌≡◌, true, List, [], ◌∷◌, length, get_or, take, eqb}
-use Rattle.numbers.specs.Words.{if◌then◌else◌, map, fold}
+use Rattle.std.specs.Prelude.{ℕ, ◌/◌, ◌≤◌, ◌<◌, ◌≡◌, true, List, [], ◌∷◌, length, get_or, take, eqb, if◌then◌else◌}
+use Rattle.numbers.specs.Words.{map, fold}
 use Rattle.numbers.specs.Numbers.{counter}
 use Rattle.block.specs.Block.{Laid, block_at}
 use Rattle.meaning.specs.Clock.{Clock}

@@ -2,8 +2,8 @@
 // the sender's rows, with which the reply's objects are filled, and `rows` those that the step will leave.
 #![tactic(auto)]
 
-ghost use Rattle.std.specs.Prelude.{◌≡◌, true, ◌/◌, ◌≤◌, length, take, eqb};
-ghost use Rattle.numbers.specs.Words.{if◌then◌else◌, map, ascends?, fold};
+ghost use Rattle.std.specs.Prelude.{◌≡◌, true, ◌/◌, ◌≤◌, length, take, eqb, if◌then◌else◌};
+ghost use Rattle.numbers.specs.Words.{map, ascends?, fold};
 ghost use Rattle.numbers.specs.Numbers.{counter};
 ghost use Rattle.block.specs.Block.{Laid};
 ghost use Rattle.meaning.specs.State.{stored_before, local};

@@ -1,4 +1,5 @@
 -- Eight counters that stand alone, as a context: made one after the other, and against the entries of another. Assumes nothing.
+use Rattle.std.specs.Prelude.{if◌then◌else◌}
 use Prim.Native.Nat.{ℕ, ◌+◌, ◌-◌, max, ◌≤◌, ◌<◌}
 use mathlib.Core.Path.{◌≡◌, ap, ap₂, sym, ◌∙◌}
 use mathlib.Core.List.{List}
@@ -8,7 +9,7 @@ use lib.Seq.{get_or-set_same, get_or-set_other}
 use borrow.Author.Count.{below_more}
 use Rattle.numbers.specs.declared.Controller.{Controller}
 use Rattle.numbers.specs.declared.Counter.{Counter}
-use Rattle.numbers.specs.Words.{if◌then◌else◌, map}
+use Rattle.numbers.specs.Words.{map}
 use Rattle.numbers.specs.Numbers.{controller, counter, each}
 use Rattle.numbers.proofs.Lists.{map_length}
 use Rattle.numbers.proofs.Controllers.{each_same, each_entry}

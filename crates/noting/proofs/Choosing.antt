@@ -1,4 +1,5 @@
 -- The next dot behind the last one: what is chosen one by one of a list is the first behind the last one of that list in order. Assumes nothing.
+use Rattle.std.specs.Prelude.{if◌then◌else◌}
 use mathlib.Core.Path.{◌≡◌, refl, sym, ap, ◌∙◌}
 use mathlib.Core.Logic.{⊎_elim}
 use mathlib.Core.Bool.{Bool, true, false}
@@ -6,7 +7,7 @@ use mathlib.Core.List.Memᴰ
 use mathlib.Core.List.{List, [], ◌∷◌}
 use Rattle.numbers.specs.declared.Dot.{Dot}
 use Rattle.numbers.specs.declared.Key.{Key}
-use Rattle.numbers.specs.Words.{if◌then◌else◌, cons_if, keep, place, place_all}
+use Rattle.numbers.specs.Words.{cons_if, keep, place, place_all}
 use Rattle.numbers.specs.Dot.{dot_before}
 use Rattle.numbers.proofs.Tests.{by_test, never, ◌∈◌, here, there}
 use Rattle.numbers.proofs.Orders.{Ascends, ascends_first, ascends_rest, place_all_ascends}

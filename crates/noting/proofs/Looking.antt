@@ -1,4 +1,5 @@
 -- Which dots arrive new, as the code asks it, and the points of a message one after the other. Assumes nothing.
+use Rattle.std.specs.Prelude.{if◌then◌else◌}
 use Prim.Native.Nat.{ℕ, ◌+◌, ◌-◌, ◌*◌, ◌/◌, ◌≤◌, ◌<◌}
 use mathlib.Core.Path.{◌≡◌, refl, ap, sym, ◌∙◌, subst}
 use mathlib.Core.Bool.{Bool, true, false, ◌&&◌, not}
@@ -9,7 +10,7 @@ use borrow.Author.Tests.{leb-true, leb-false, lt-ltb, le-ltb}
 use Rattle.numbers.specs.declared.Counter.{Counter}
 use Rattle.numbers.specs.declared.Dot.{Dot}
 use Rattle.numbers.specs.declared.Key.{Key}
-use Rattle.numbers.specs.Words.{if◌then◌else◌, cons_if, keep, map, concat_map, fold}
+use Rattle.numbers.specs.Words.{cons_if, keep, map, concat_map, fold}
 use Rattle.numbers.proofs.Tests.{by_test, and_one}
 use Rattle.block.specs.Fields.{cut, field, upto}
 use Rattle.block.specs.Block.{block_at}

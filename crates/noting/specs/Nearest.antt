@@ -1,8 +1,8 @@
 -- The next dot to be listed: of those that arrive new the first behind the last one that was listed. Assumes nothing.
-use Rattle.std.specs.Prelude.{List}
+use Rattle.std.specs.Prelude.{List, if◌then◌else◌}
 use Rattle.numbers.specs.declared.Dot.{Dot}
 use Rattle.numbers.specs.declared.Key.{Key}
-use Rattle.numbers.specs.Words.{if◌then◌else◌, fold}
+use Rattle.numbers.specs.Words.{fold}
 use Rattle.numbers.specs.Dot.{dot_before}
 use Rattle.meaning.specs.State.{Listed, State}
 use Rattle.noting.specs.declared.Next.{Next}

@@ -1,4 +1,5 @@
 -- What is in the lists that the definitions build. Assumes nothing.
+use Rattle.std.specs.Prelude.{if◌then◌else◌}
 use Prim.Native.Nat.{ℕ, zero, suc, ◌-◌}
 use mathlib.Core.Path.{◌≡◌, refl, sym, ap, ◌∙◌, subst}
 use mathlib.Core.Logic.{◌⊎◌, inl, inr, ⊎_elim, ⊎_map}
@@ -6,7 +7,7 @@ use mathlib.Core.Bool.{Bool, true, false, false≢true}
 use mathlib.Core.List.Memᴰ
 use mathlib.Core.List.{List, [], ◌∷◌, ◌++◌}
 use lib.ListN.{length, get_or}
-use Rattle.numbers.specs.Words.{if◌then◌else◌, every, cons_if, keep, some?, all?, place, place_all, map, concat_map}
+use Rattle.numbers.specs.Words.{every, cons_if, keep, some?, all?, place, place_all, map, concat_map}
 use Rattle.numbers.proofs.Tests.{by_test, never, and_left, and_right, and_both, and_passed, or_cases, or_inl, or_inr, ◌∈◌, here, there}
 
 -- membership in an append

@@ -1,4 +1,5 @@
 -- A given context against the filled one, entry by entry. Assumes nothing.
+use Rattle.std.specs.Prelude.{if◌then◌else◌}
 use Prim.Native.Nat.{ℕ, ◌+◌, ◌-◌, ◌*◌, max, ◌≤◌, ◌<◌}
 use mathlib.Core.Path.{◌≡◌, ap, sym, ◌∙◌}
 use mathlib.Core.Bool.{Bool, true, false, not}
@@ -8,7 +9,7 @@ use lib.ListN.{get_or}
 use lib.Dec.{ltb}
 use Rattle.numbers.specs.declared.Controller.{Controller}
 use Rattle.numbers.specs.declared.Counter.{Counter}
-use Rattle.numbers.specs.Words.{if◌then◌else◌, map, some?}
+use Rattle.numbers.specs.Words.{map, some?}
 use Rattle.numbers.specs.Numbers.{controller, counter, controllers}
 use Rattle.block.specs.Fields.{field}
 use Rattle.block.proofs.Passing.{Passing, one_fails, all_passed, some_upto}

@@ -1,4 +1,5 @@
 -- When a record would go, stripped by given rows. Assumes nothing.
+use Rattle.std.specs.Prelude.{if◌then◌else◌}
 use Prim.Native.Nat.{ℕ, ◌+◌, ◌*◌, ◌≤◌}
 use mathlib.Core.Path.{◌≡◌, ap, sym, ◌∙◌}
 use mathlib.Core.Bool.{Bool, ◌&&◌}
@@ -7,7 +8,7 @@ use native.Mathlib.Omega.{arith}
 use lib.Dec.{leb, eqb}
 use borrow.Author.Tests.{leb-false, ne_eqb}
 use Rattle.numbers.specs.declared.Counter.{Counter}
-use Rattle.numbers.specs.Words.{if◌then◌else◌, every}
+use Rattle.numbers.specs.Words.{every}
 use Rattle.numbers.specs.Numbers.{controller, counter}
 use Rattle.numbers.proofs.Tests.{by_test}
 use Rattle.block.specs.Fields.{field, upto}

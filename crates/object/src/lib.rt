@@ -1,8 +1,8 @@
 // Fill, strip, and what goes of a point's versions, in one point block of the lent bytes. The block's check is made after the last of them.
 #![tactic(auto)]
 
-ghost use Rattle.std.specs.Prelude.{◌≡◌, true, not, ◌≤◌, ◌<◌, max, length, leb, ltb};
-ghost use Rattle.numbers.specs.Words.{if◌then◌else◌, keep, map, some?, ascends?, place};
+ghost use Rattle.std.specs.Prelude.{◌≡◌, true, not, ◌≤◌, ◌<◌, max, length, leb, ltb, if◌then◌else◌};
+ghost use Rattle.numbers.specs.Words.{keep, map, some?, ascends?, place};
 ghost use Rattle.numbers.specs.Numbers.{counter, controllers, Crew};
 ghost use Rattle.block.specs.Fields.{field};
 ghost use Rattle.block.specs.Block.{Laid};

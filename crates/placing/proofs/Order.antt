@@ -1,11 +1,12 @@
 -- The results of a step, put one after the other: a point that no result is of keeps its record, and the order does not matter. Assumes nothing.
+use Rattle.std.specs.Prelude.{if◌then◌else◌}
 use mathlib.Core.Path.{◌≡◌, refl, sym, ap, ◌∙◌, subst}
 use mathlib.Core.Logic.{◌⊎◌, inl, inr, ⊎_elim}
 use mathlib.Core.Bool.{Bool, true, false, ◌||◌, not}
 use mathlib.Core.List.Memᴰ
 use mathlib.Core.List.{List, [], ◌∷◌}
 use Rattle.numbers.specs.declared.Key.{Key}
-use Rattle.numbers.specs.Words.{if◌then◌else◌, keep, ascends?, place, fold}
+use Rattle.numbers.specs.Words.{keep, ascends?, place, fold}
 use Rattle.numbers.specs.Key.{same_key}
 use Rattle.numbers.proofs.Tests.{by_test, never, ◌∈◌, here, there}
 use Rattle.numbers.proofs.Lists.{in_keep, keep_in, in_all, none_in, place_here, place_there}

@@ -1,11 +1,12 @@
 -- The first point behind the last one: what is chosen one by one of a list is its smallest above it. Assumes nothing.
+use Rattle.std.specs.Prelude.{if◌then◌else◌}
 use mathlib.Core.Path.{◌≡◌, refl, sym, ap, ◌∙◌, subst}
 use mathlib.Core.Logic.{⊎_elim}
 use mathlib.Core.Bool.{Bool, true, false}
 use mathlib.Core.List.Memᴰ
 use mathlib.Core.List.{List, [], ◌∷◌, ◌++◌, append_assoc}
 use Rattle.numbers.specs.declared.Key.{Key}
-use Rattle.numbers.specs.Words.{if◌then◌else◌, fold}
+use Rattle.numbers.specs.Words.{fold}
 use Rattle.numbers.specs.Key.{key_before}
 use Rattle.numbers.proofs.Tests.{by_test, never, ◌∈◌, here}
 use Rattle.numbers.proofs.Lists.{in_left, in_right}

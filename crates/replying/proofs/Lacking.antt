@@ -1,4 +1,5 @@
 -- What the asker lacks, listed dot by listed dot, and the loop over a list. Assumes nothing.
+use Rattle.std.specs.Prelude.{if◌then◌else◌}
 use Prim.Native.Nat.{ℕ, ◌+◌, ◌≤◌, ◌<◌}
 use mathlib.Core.Path.{◌≡◌, refl, sym, ap, ap₂, ◌∙◌}
 use mathlib.Core.Bool.{Bool, true, false, ◌&&◌, not}
@@ -11,7 +12,7 @@ use lib.Seq.{drop-cons}
 use borrow.Author.Tests.{leb-true}
 use Rattle.numbers.specs.declared.Controller.{Controller}
 use Rattle.numbers.specs.declared.Key.{Key}
-use Rattle.numbers.specs.Words.{if◌then◌else◌, keep}
+use Rattle.numbers.specs.Words.{keep}
 use Rattle.numbers.specs.Numbers.{Crew, is_controller, is_counter, is_job, is_point, same_controller}
 use Rattle.numbers.specs.Key.{is_key}
 use Rattle.numbers.proofs.Tests.{by_test, never, and_left, and_right, and_both, or_inr, ◌∈◌}

@@ -1,8 +1,8 @@
 -- The next point to be sent: of those that the asker lacks the first behind the last one that was sent. Assumes nothing.
-use Rattle.std.specs.Prelude.{Bool, ◌&&◌, not, List}
+use Rattle.std.specs.Prelude.{Bool, ◌&&◌, not, List, if◌then◌else◌}
 use Rattle.numbers.specs.declared.Controller.{Controller}
 use Rattle.numbers.specs.declared.Key.{Key}
-use Rattle.numbers.specs.Words.{if◌then◌else◌, all?, map, fold}
+use Rattle.numbers.specs.Words.{all?, map, fold}
 use Rattle.numbers.specs.Numbers.{is_controller}
 use Rattle.numbers.specs.Key.{key_before}
 use Rattle.meaning.specs.CrewTable.{CrewTable, holds}

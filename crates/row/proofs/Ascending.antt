@@ -1,5 +1,6 @@
 -- Adds in ascending order, each against the limit of 64 bits, answer what the whole result answers. So code that adds one counter after
 -- another gives the answer of refusal 11, which is asked of a step's result "with no limit applied". Assumes nothing.
+use Rattle.std.specs.Prelude.{if◌then◌else◌}
 use Prim.Native.Nat.{◌+◌, ◌≤◌, ◌<◌}
 use mathlib.Core.Path.{◌≡◌, refl}
 use mathlib.Core.Logic.{◌⊎◌, inl, inr, ◌↔◌, ⊎_elim}
@@ -11,7 +12,6 @@ use lib.Dec.{leb}
 use borrow.Author.Tests.{leb-true, leb-false}
 use Rattle.numbers.specs.declared.Counter.{Counter}
 use Rattle.numbers.specs.Numbers.{counter}
-use Rattle.numbers.specs.Words.{if◌then◌else◌}
 use Rattle.numbers.proofs.Tests.{by_test, never, ◌∈◌}
 use Rattle.row.specs.declared.Row.{Row}
 use Rattle.row.specs.declared.Added.{Added}

@@ -1,10 +1,9 @@
 -- A clock row: which counters of one controller were seen. Assumes nothing.
 -- "A row per controller: a base b (1..b all seen) and 64 bits, bit j standing for counter b+1+j."
 -- Here `bits` may be any number. That it is below 2 ^ 64 is what refusal 11 asks of a step's result, "with no limit applied".
-use Rattle.std.specs.Prelude.{ℕ, zero, suc, ◌+◌, ◌-◌, ◌/◌, ◌%◌, ◌^◌, ◌≤◌, max, ◌≡◌, Bool, true, false, ◌&&◌, ◌||◌, leb, ltb, eqb}
+use Rattle.std.specs.Prelude.{ℕ, zero, suc, ◌+◌, ◌-◌, ◌/◌, ◌%◌, ◌^◌, ◌≤◌, max, ◌≡◌, Bool, true, false, ◌&&◌, ◌||◌, leb, ltb, eqb, if◌then◌else◌}
 use Rattle.std.specs.Int.Bits.{bit_or}
 use Rattle.numbers.specs.declared.Counter.{Counter}
-use Rattle.numbers.specs.Words.{if◌then◌else◌}
 use Rattle.numbers.specs.Numbers.{counter, last_counter}
 use Rattle.row.specs.declared.Row.{Row}
 use Rattle.row.specs.declared.Added.{Added}

@@ -1,8 +1,7 @@
 // The static library that C links: an export for each call of crate sqimrutta, with the same promise.
 #![tactic(auto)]
 
-ghost use Rattle.std.specs.Prelude.{◌≡◌};
-ghost use Rattle.numbers.specs.Words.{if◌then◌else◌};
+ghost use Rattle.std.specs.Prelude.{◌≡◌, if◌then◌else◌};
 ghost use Rattle.refusal.specs.Refusal.{answer_number};
 ghost use Rattle.layout.specs.Image.{good_image};
 ghost use Rattle.opening.specs.CallContracts.{Starts, Reads, Writes, Deletes, TakesIn, Asks, Replies, Repairs, Strips};

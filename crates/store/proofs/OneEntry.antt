@@ -1,4 +1,5 @@
 -- One of eight put anew: controller o's, and no other. Assumes nothing.
+use Rattle.std.specs.Prelude.{if◌then◌else◌}
 use Prim.Native.Nat.{ℕ, ◌+◌, ◌-◌, ◌≤◌}
 use mathlib.Core.Path.{◌≡◌, refl, ap, sym, ◌∙◌, subst}
 use mathlib.Core.Bool.{false}
@@ -8,7 +9,6 @@ use lib.ListN.{length, get_or}
 use lib.Dec.{ltb}
 use borrow.Author.Tests.{ltb-true, ltb-false, eqb-false}
 use Rattle.numbers.specs.declared.Controller.{Controller}
-use Rattle.numbers.specs.Words.{if◌then◌else◌}
 use Rattle.numbers.specs.Numbers.{same_controller, each, Crew}
 use Rattle.numbers.proofs.Tests.{by_test}
 use Rattle.numbers.proofs.Controllers.{same_controllers, each_same, each_entry}

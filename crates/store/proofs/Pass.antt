@@ -1,4 +1,5 @@
 -- Every stored point stripped: what the pass leaves, said record by record. Assumes nothing.
+use Rattle.std.specs.Prelude.{if◌then◌else◌}
 use Prim.Native.Nat.{ℕ, suc, ◌<◌}
 use mathlib.Core.Path.{◌≡◌, refl, ap, ap₂, sym, ◌∙◌, subst}
 use mathlib.Core.Logic.{⊎_elim}
@@ -9,7 +10,7 @@ use native.Mathlib.Omega.{arith}
 use lib.ListN.{length, take, drop, get_or, length-take, drop_of_length-le}
 use lib.Seq.{take_all, take-suc, drop-cons, take_at, drop_at}
 use Rattle.numbers.specs.declared.Key.{Key}
-use Rattle.numbers.specs.Words.{if◌then◌else◌, cons_if, keep, all?, ascends?, place, map, fold}
+use Rattle.numbers.specs.Words.{cons_if, keep, all?, ascends?, place, map, fold}
 use Rattle.numbers.specs.Key.{same_key, key_before}
 use Rattle.numbers.proofs.Tests.{by_test, and_left, and_right, ◌∈◌, here, there}
 use Rattle.numbers.proofs.Lists.{all_in}

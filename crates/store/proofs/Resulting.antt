@@ -1,4 +1,5 @@
 -- A result in a block of its own takes its record's place. Assumes nothing.
+use Rattle.std.specs.Prelude.{if◌then◌else◌}
 use Prim.Native.Nat.{ℕ, ◌+◌, ◌≤◌, ◌<◌}
 use mathlib.Core.Path.{◌≡◌, refl, ap, ap₂, sym, ◌∙◌, subst}
 use mathlib.Core.Bool.{Bool, true, false}
@@ -6,7 +7,7 @@ use mathlib.Core.List.{List, [], ◌∷◌, ◌++◌}
 use native.Mathlib.Omega.{arith}
 use lib.ListN.{length, take, drop, get_or, length-take, length-append, length-drop}
 use lib.Seq.{take_at, drop_at}
-use Rattle.numbers.specs.Words.{if◌then◌else◌, ascends?, place}
+use Rattle.numbers.specs.Words.{ascends?, place}
 use Rattle.numbers.specs.declared.Key.{Key}
 use Rattle.block.specs.Fields.{put_at, insert_at, remove_at, upto}
 use Rattle.block.proofs.Numbers.{Bytes}

@@ -1,4 +1,5 @@
 -- A record stripped in its block is the record stripped. Assumes nothing.
+use Rattle.std.specs.Prelude.{if◌then◌else◌}
 use Prim.Native.Nat.{ℕ, ◌+◌, ◌*◌, ◌-◌, ◌^◌, ◌≤◌, ◌<◌}
 use mathlib.Core.Path.{◌≡◌, refl, ap, ap₂, sym, ◌∙◌, subst}
 use mathlib.Core.Bool.{Bool, true, false}
@@ -9,7 +10,6 @@ use lib.Seq.{take_at, drop_at}
 use lib.Dec.{leb}
 use Rattle.numbers.specs.declared.Controller.{Controller}
 use Rattle.numbers.specs.declared.Counter.{Counter}
-use Rattle.numbers.specs.Words.{if◌then◌else◌}
 use Rattle.numbers.specs.Numbers.{counter, each, controllers, Crew}
 use Rattle.numbers.proofs.Tests.{by_test, ◌∈◌}
 use Rattle.numbers.proofs.Lists.{in_map}

@@ -1,6 +1,5 @@
 -- The stored points when one of them is stripped, and goes where nothing needs it. Assumes nothing.
-use Rattle.std.specs.Prelude.{ℕ, List, get_or}
-use Rattle.numbers.specs.Words.{if◌then◌else◌}
+use Rattle.std.specs.Prelude.{ℕ, List, get_or, if◌then◌else◌}
 use Rattle.block.specs.Fields.{put_at, remove_at}
 use Rattle.meaning.specs.Clock.{Clock}
 use Rattle.meaning.specs.Object.{strip, gone}

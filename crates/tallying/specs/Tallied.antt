@@ -1,6 +1,6 @@
 -- What the results of a repair are judged by: rows 11 to 13 of the table. Assumes nothing.
-use Rattle.std.specs.Prelude.{ℕ, ◌<◌, ◌/◌, ◌≡◌, Bool, true, not, List, length, take, ltb}
-use Rattle.numbers.specs.Words.{if◌then◌else◌, keep, map, fold, some?}
+use Rattle.std.specs.Prelude.{ℕ, ◌<◌, ◌/◌, ◌≡◌, Bool, true, not, List, length, take, ltb, if◌then◌else◌}
+use Rattle.numbers.specs.Words.{keep, map, fold, some?}
 use Rattle.refusal.specs.declared.Refusal.TheVariants.{RowTooFar, TooManyVersions, TooManyPoints}
 use Rattle.refusal.specs.Refusal.{Answer, accepted, refuse◌when◌else◌}
 use Rattle.row.specs.Row.{fits}

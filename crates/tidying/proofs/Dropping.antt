@@ -1,4 +1,5 @@
 -- The dots of a list that all know taken out of it, from the last to the first. Assumes nothing.
+use Rattle.std.specs.Prelude.{if◌then◌else◌}
 use Prim.Native.Nat.{ℕ, suc, ◌-◌, ◌≤◌, ◌<◌}
 use mathlib.Core.Path.{◌≡◌, refl, ap, ap₂, sym, ◌∙◌, subst}
 use mathlib.Core.Bool.{Bool, true, false, not}
@@ -6,7 +7,7 @@ use mathlib.Core.List.{List}
 use native.Mathlib.Omega.{arith}
 use lib.ListN.{length, get_or}
 use lib.Dec.{eqb}
-use Rattle.numbers.specs.Words.{if◌then◌else◌, keep}
+use Rattle.numbers.specs.Words.{keep}
 use Rattle.numbers.specs.Numbers.{Crew, is_controller}
 use Rattle.numbers.proofs.Tests.{by_test}
 use Rattle.numbers.proofs.Lists.{all_in}

@@ -1,4 +1,5 @@
 -- The watermark raised, mark by mark. Assumes nothing.
+use Rattle.std.specs.Prelude.{if◌then◌else◌}
 use Prim.Native.Nat.{ℕ, ◌-◌, ◌≤◌, ◌<◌, max}
 use mathlib.Core.Path.{◌≡◌, refl, ap, sym, ◌∙◌, subst}
 use mathlib.Core.Bool.{true, false, ◌&&◌}
@@ -7,7 +8,6 @@ use native.Mathlib.Nat.{max-eq_left, max-eq_right}
 use native.Mathlib.Omega.{arith}
 use lib.ListN.{length, get_or}
 use Rattle.numbers.specs.declared.Controller.{Controller}
-use Rattle.numbers.specs.Words.{if◌then◌else◌}
 use Rattle.numbers.specs.Numbers.{same_controller, each, Crew}
 use Rattle.numbers.proofs.Tests.{by_test, and_left, and_right}
 use Rattle.numbers.proofs.Controllers.{same_controllers, at_each, each_same, each_entry}

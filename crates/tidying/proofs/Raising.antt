@@ -1,4 +1,5 @@
 -- The marks for one controller raised, and those for all eight one after the other. Assumes nothing.
+use Rattle.std.specs.Prelude.{if◌then◌else◌}
 use Prim.Native.Nat.{ℕ, ◌+◌, ◌-◌, ◌≤◌, ◌<◌, max}
 use mathlib.Core.Path.{◌≡◌, refl, ap, ap₂, sym, ◌∙◌, subst}
 use mathlib.Core.Bool.{Bool, true, false, ◌&&◌}
@@ -7,7 +8,6 @@ use native.Mathlib.Omega.{arith}
 use lib.ListN.{length}
 use borrow.Author.Tests.{ne_eqb, eqb-true, eqb-false}
 use Rattle.numbers.specs.declared.Controller.{Controller}
-use Rattle.numbers.specs.Words.{if◌then◌else◌}
 use Rattle.numbers.specs.Numbers.{controller, same_controller, each, Crew}
 use Rattle.numbers.proofs.Tests.{by_test, never}
 use Rattle.numbers.proofs.Controllers.{same_controllers, each_same}

@@ -1,8 +1,8 @@
 -- What the end of a repair makes of the watermark and of the lists, one mark and one dot at a time. Assumes nothing.
-use Rattle.std.specs.Prelude.{ℕ, max, Bool, ◌&&◌, ◌||◌, not, List, [], get_or, leb}
+use Rattle.std.specs.Prelude.{ℕ, max, Bool, ◌&&◌, ◌||◌, not, List, [], get_or, leb, if◌then◌else◌}
 use Rattle.numbers.specs.declared.Controller.{Controller}
 use Rattle.numbers.specs.declared.Dot.{Dot}
-use Rattle.numbers.specs.Words.{if◌then◌else◌, all?}
+use Rattle.numbers.specs.Words.{all?}
 use Rattle.numbers.specs.Numbers.{same_controller, each, controllers}
 use Rattle.block.specs.Fields.{remove_at}
 use Rattle.meaning.specs.CrewTable.{CrewTable}

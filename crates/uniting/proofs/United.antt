@@ -1,10 +1,10 @@
 -- A clock with the sender's row about itself united with ours: one row is put anew, and each is sound. Assumes nothing.
+use Rattle.std.specs.Prelude.{if◌then◌else◌}
 use Prim.Native.Nat.{◌-◌}
 use mathlib.Core.Path.{◌≡◌, ap, sym, ◌∙◌, subst}
 use mathlib.Core.Bool.{true}
 use lib.ListN.{length}
 use Rattle.numbers.specs.declared.Controller.{Controller}
-use Rattle.numbers.specs.Words.{if◌then◌else◌}
 use Rattle.numbers.specs.Numbers.{same_controller, Crew}
 use Rattle.numbers.proofs.Tests.{by_test}
 use Rattle.numbers.proofs.Controllers.{same_controllers, each_same}

@@ -1,4 +1,5 @@
 -- Rows 12 and 13 of the table, judged on the lent image. Assumes nothing.
+use Rattle.std.specs.Prelude.{if◌then◌else◌}
 use Prim.Native.Nat.{ℕ, ◌+◌, ◌-◌, ◌*◌, ◌≤◌, ◌<◌}
 use mathlib.Core.Path.{◌≡◌, refl, ap, ap₂, sym, ◌∙◌, subst}
 use mathlib.Core.Bool.{Bool, true, false, ◌&&◌, ◌||◌, not}
@@ -8,7 +9,7 @@ use lib.ListN.{length, take, drop, get_or, length-append, length-take, length-dr
 use lib.Dec.{ltb}
 use borrow.Author.Tests.{le-ltb, lt-ltb}
 use Rattle.numbers.specs.declared.Key.{Key}
-use Rattle.numbers.specs.Words.{if◌then◌else◌, keep, map, place, ascends?}
+use Rattle.numbers.specs.Words.{keep, map, place, ascends?}
 use Rattle.numbers.specs.Numbers.{counter}
 use Rattle.numbers.specs.Key.{same_key}
 use Rattle.numbers.proofs.Tests.{by_test}

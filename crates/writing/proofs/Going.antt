@@ -1,4 +1,5 @@
 -- Whether the record of a write or a delete goes: never with a value, and always where nothing was stored and nothing is said. Assumes nothing.
+use Rattle.std.specs.Prelude.{if◌then◌else◌}
 use Prim.Native.Nat.{◌+◌, ◌≤◌}
 use mathlib.Core.Path.{◌≡◌, ap, ap₂, sym, ◌∙◌, subst}
 use mathlib.Core.Bool.{Bool, true, false, ◌&&◌, not}
@@ -8,7 +9,7 @@ use borrow.Author.Tests.{le-leb}
 use Rattle.numbers.specs.declared.Controller.{Controller}
 use Rattle.numbers.specs.declared.Counter.{Counter}
 use Rattle.numbers.specs.declared.Key.{Key}
-use Rattle.numbers.specs.Words.{if◌then◌else◌, keep, some?, place}
+use Rattle.numbers.specs.Words.{keep, some?, place}
 use Rattle.numbers.specs.Numbers.{controller, counter, same_controller, Crew}
 use Rattle.numbers.proofs.Tests.{by_test}
 use Rattle.numbers.proofs.Lists.{in_some, place_here}

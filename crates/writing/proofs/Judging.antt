@@ -1,4 +1,5 @@
 -- What a write or a delete is judged by: its rows always fit, and it has one version more than those that stay. Assumes nothing.
+use Rattle.std.specs.Prelude.{if◌then◌else◌}
 use Prim.Native.Nat.{◌+◌}
 use mathlib.Core.Path.{◌≡◌, refl, ap, sym, ◌∙◌, subst}
 use mathlib.Core.Bool.{Bool, true, false, not}
@@ -8,7 +9,7 @@ use lib.ListN.{length}
 use Rattle.numbers.specs.declared.Controller.{Controller}
 use Rattle.numbers.specs.declared.Dot.{Dot}
 use Rattle.numbers.specs.declared.Key.{Key}
-use Rattle.numbers.specs.Words.{if◌then◌else◌, keep, place}
+use Rattle.numbers.specs.Words.{keep, place}
 use Rattle.numbers.specs.Numbers.{same_controller, controllers, Crew}
 use Rattle.numbers.specs.Dot.{dot_before}
 use Rattle.numbers.proofs.Tests.{by_test, ◌∈◌, here, there}

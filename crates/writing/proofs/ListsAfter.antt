@@ -1,4 +1,5 @@
 -- The dot lists after a write or a delete: the new dot stands last in the own list, and the foreign list is as it was. Assumes nothing.
+use Rattle.std.specs.Prelude.{if◌then◌else◌}
 use Prim.Native.Nat.{◌+◌, ◌-◌}
 use mathlib.Core.Path.{◌≡◌, refl, ap, sym, ◌∙◌}
 use mathlib.Core.Logic.{inr}
@@ -9,7 +10,7 @@ use lib.ListN.{length, take, drop, drop_of_length-le}
 use lib.Seq.{take_all, take-nil}
 use Rattle.numbers.specs.declared.Controller.{Controller}
 use Rattle.numbers.specs.declared.Key.{Key}
-use Rattle.numbers.specs.Words.{if◌then◌else◌, cons_if, keep, place, place_all, map}
+use Rattle.numbers.specs.Words.{cons_if, keep, place, place_all, map}
 use Rattle.numbers.specs.Numbers.{same_controller}
 use Rattle.numbers.proofs.Tests.{by_test, ◌∈◌, here, there}
 use Rattle.numbers.proofs.Lists.{in_keep}

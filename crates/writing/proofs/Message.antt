@@ -1,4 +1,5 @@
 -- The outgoing message as it is written: fetched, filled, what is covered dropped, the new version put in, the own entry raised, sealed. Assumes nothing.
+use Rattle.std.specs.Prelude.{if◌then◌else◌}
 use Prim.Native.Nat.{ℕ, ◌<◌}
 use mathlib.Core.Path.{◌≡◌, ap, ap₂, sym, ◌∙◌, subst}
 use mathlib.Core.Bool.{true, not}
@@ -6,7 +7,7 @@ use mathlib.Core.List.{List}
 use lib.ListN.{length, take}
 use Rattle.numbers.specs.declared.Dot.{Dot}
 use Rattle.numbers.specs.declared.Key.{Key}
-use Rattle.numbers.specs.Words.{if◌then◌else◌, keep, ascends?, place}
+use Rattle.numbers.specs.Words.{keep, ascends?, place}
 use Rattle.numbers.specs.Numbers.{counter, is_controller, same_controller, each}
 use Rattle.numbers.proofs.Lists.{in_all}
 use Rattle.numbers.proofs.Controllers.{is_crew}

@@ -1,7 +1,7 @@
 -- `arriving::enter_version` meets its contract. Assumes nothing.
+use Rattle.std.specs.Prelude.{if◌then◌else◌}
 use mathlib.Core.Path.{ap, sym, ◌∙◌}
 use mathlib.Core.Bool.{Bool}
-use Rattle.numbers.specs.Words.{if◌then◌else◌}
 use Rattle.arriving.specs.Tried.{tried}
 use Rattle.arriving.proofs.enter_version.Goals as goal
 

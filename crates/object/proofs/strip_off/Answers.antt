@@ -1,10 +1,10 @@
 -- `object::strip_off` meets its contract. The invariant: the entries of the first controllers are stripped (Sweeping). Assumes nothing.
+use Rattle.std.specs.Prelude.{if◌then◌else◌}
 use Prim.Native.Nat.{◌-◌}
 use mathlib.Core.Path.{refl, ap₂, ◌∙◌}
 use native.Mathlib.Omega.{arith}
 use lib.Dec.{leb}
 use Rattle.numbers.specs.declared.Counter.{Counter}
-use Rattle.numbers.specs.Words.{if◌then◌else◌}
 use Rattle.numbers.specs.Numbers.{counter}
 use Rattle.block.proofs.Numbers.{bytes_of}
 use Rattle.row.specs.declared.Row.{Row}

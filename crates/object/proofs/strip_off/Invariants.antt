@@ -1,7 +1,7 @@
 -- `object::strip_off` meets its contract. The invariant: the entries of the first controllers are stripped (Sweeping). Assumes nothing.
+use Rattle.std.specs.Prelude.{if◌then◌else◌}
 use Prim.Native.Nat.{◌-◌}
 use lib.Dec.{leb}
-use Rattle.numbers.specs.Words.{if◌then◌else◌}
 use Rattle.numbers.specs.Numbers.{counter}
 use Rattle.meaning.specs.Clock.{row}
 use Rattle.meaning.specs.Context.{entry}

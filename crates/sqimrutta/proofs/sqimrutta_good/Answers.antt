@@ -1,6 +1,6 @@
+use Rattle.std.specs.Prelude.{if◌then◌else◌}
 use mathlib.Core.Path.{ap, sym, ◌∙◌}
 use mathlib.Core.Bool.{Bool}
-use Rattle.numbers.specs.Words.{if◌then◌else◌}
 use Rattle.sqimrutta.proofs.sqimrutta_good.Goals as goal
 
 pub returns-then-good : goal.returns-then-good
