@@ -9,7 +9,7 @@ use Rattle.numbers.specs.Numbers.{controller}
 use Rattle.numbers.specs.Key.{key}
 use Rattle.refusal.specs.declared.Verdict.TheVariants.{Refused}
 use Rattle.refusal.specs.declared.Refusal.TheVariants.{WrongLength, ImageNotGood, WrongCheck, IllFormed}
-use Rattle.refusal.specs.Refusal.{Answer, accepted}
+use Rattle.refusal.specs.Refusal.{Answer, accepted, ◌>>=◌}
 use Rattle.block.specs.Fields.{le, number, field, zeros, pad}
 use Rattle.block.specs.Check.{seal, sealed}
 use Rattle.block.specs.Block.{make_block, block_at, blocks}
