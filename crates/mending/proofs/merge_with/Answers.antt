@@ -22,9 +22,9 @@ put_merged-requires c = let e = c.both_contexts.ensures in (
   e.2,
   c.requires.7,
   e.1,
-  c.requires.10 c.both_contexts.new.1.1.1.1.0 c.both_contexts.new.1.1.1.1.1.0 e.0 e.1 e.2 e.3,
-  subst (λ (r : Stored). length (put (decode_clock c.args.rows.now) (decode c.args.image.now).points r) ≤ most_points) (sym (result_mended (decode c.args.image.now) (decode_clock c.args.clock.now) c.args.b.now c.both_contexts.new.1.1.1.1.1.0 c.both_contexts.ensures.3)) c.requires.11,
+  c.requires.10 c.both_contexts.new.here c.both_contexts.new.there e.0 e.1 e.2 e.3,
+  subst (λ (r : Stored). length (put (decode_clock c.args.rows.now) (decode c.args.image.now).points r) ≤ most_points) (sym (result_mended (decode c.args.image.now) (decode_clock c.args.clock.now) c.args.b.now c.both_contexts.new.there c.both_contexts.ensures.3)) c.requires.11,
 )
 
 pub returns : goal.returns
-returns c = (c.put_merged.ensures.0 ∙ ap (λ (r : Stored). with_points (decode c.args.image.now) (put (decode_clock c.args.rows.now) (decode c.args.image.now).points r)) (result_mended (decode c.args.image.now) (decode_clock c.args.clock.now) c.args.b.now c.both_contexts.new.1.1.1.1.1.0 c.both_contexts.ensures.3), c.put_merged.ensures.1)
+returns c = (c.put_merged.ensures.0 ∙ ap (λ (r : Stored). with_points (decode c.args.image.now) (put (decode_clock c.args.rows.now) (decode c.args.image.now).points r)) (result_mended (decode c.args.image.now) (decode_clock c.args.clock.now) c.args.b.now c.both_contexts.new.there c.both_contexts.ensures.3), c.put_merged.ensures.1)

@@ -14,12 +14,12 @@ returns c = let image = c.args.image.now in
     let h = c.write_fresh_head.ensures in
     let d1 = c.write_no_dots.ensures in
     let d2 = c.write_no_dots-2.ensures in
-    let head = c.write_fresh_head.new.0 in
-    let own = c.write_no_dots.new.0 in
-    let foreign = c.write_no_dots-2.new.0 in
+    let head = c.write_fresh_head.new.b in
+    let own = c.write_no_dots.new.b in
+    let foreign = c.write_no_dots-2.new.b in
     let one = splice image 0 512 head in
     let two = splice one 512 512 own in
     let three = splice two 1024 512 foreign in
-    fresh_image image one two three c.clear.new.0 head own foreign (omega arith) (ap length h ∙ fresh_head_length number table (omega arith) bytes) (ap length d1 ∙ no_dots_length 1)
+    fresh_image image one two three c.clear.new.b head own foreign (omega arith) (ap length h ∙ fresh_head_length number table (omega arith) bytes) (ap length d1 ∙ no_dots_length 1)
     (ap length d2 ∙ no_dots_length 2) refl refl refl c.clear.ensures
     ∙ fresh_encoded number table head own foreign h d1 d2

@@ -15,7 +15,7 @@ pub drop_entry-requires : goal.drop_entry-requires
 drop_entry-requires c = (c.loop-i.invariant.size, c.loop-i.invariant.canonical, c.requires.2, c.requires.3, drop_inside (decode c.args.image.now) c.args.list c.loop-i.i c.loop-i.image c.loop-i.invariant (omega arith), drop_crew (decode c.args.image.now) c.args.list c.loop-i.i c.loop-i.image c.loop-i.invariant (omega arith) c.requires.4)
 
 pub loop-i-preserved : goal.loop-i-preserved
-loop-i-preserved c = one_dropped (decode c.args.image.now) c.args.list c.loop-i.i c.loop-i.image c.loop-i.invariant (omega arith) c.drop_entry.new.0 (search rules) c.drop_entry.ensures
+loop-i-preserved c = one_dropped (decode c.args.image.now) c.args.list c.loop-i.i c.loop-i.image c.loop-i.invariant (omega arith) c.drop_entry.new.image (search rules) c.drop_entry.ensures
 
 pub returns : goal.returns
 returns c = all_dropped (decode c.args.image.now) c.args.list c.loop-i.i c.loop-i.image c.loop-i.invariant (omega arith)

@@ -19,7 +19,7 @@ pub raise_about-requires : goal.raise_about-requires
 raise_about-requires c = (c.loop-n.invariant.size, c.loop-n.invariant.canonical, c.requires.2, (c.loop-n.invariant.low, omega arith), c.requires.3, subst Crew (sym (same_own (decode c.args.image.now) (said_by c.args.sender (decode_clock c.args.rows.now)) c.loop-n.n c.loop-n.image c.loop-n.invariant)) c.requires.4, ap (same_controller c.args.sender) (same_own (decode c.args.image.now) (said_by c.args.sender (decode_clock c.args.rows.now)) c.loop-n.n c.loop-n.image c.loop-n.invariant) ∙ c.requires.5)
 
 pub loop-n-preserved : goal.loop-n-preserved
-loop-n-preserved c = one_raised (decode c.args.image.now) (said_by c.args.sender (decode_clock c.args.rows.now)) c.loop-n.n c.loop-n.image c.loop-n.invariant (omega arith) c.raise_about.new.0 (search rules) c.raise_about.ensures
+loop-n-preserved c = one_raised (decode c.args.image.now) (said_by c.args.sender (decode_clock c.args.rows.now)) c.loop-n.n c.loop-n.image c.loop-n.invariant (omega arith) c.raise_about.new.image (search rules) c.raise_about.ensures
 
 pub returns : goal.returns
 returns c = all_raised (decode c.args.image.now) (said_by c.args.sender (decode_clock c.args.rows.now)) c.loop-n.n c.loop-n.image c.loop-n.invariant (omega arith)
