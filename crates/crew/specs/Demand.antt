@@ -1,6 +1,6 @@
 -- Demand 3: what a reading shows; and what follows from it. Assumes nothing.
--- Each statement here is a theorem. Its proof has its name, in small letters: proofs/Shown (shown-exactly, due-is-exact), proofs/Again
--- (never-shown-again), proofs/Stripping, proofs/Repeated and proofs/RepeatedRepair (.. -shows-the-same), proofs/Alarms (no-false-alarm),
+-- Each statement here is a theorem. Its proof has its name, in small letters: proofs/Shown (shown_exactly, due_is_exact), proofs/Again
+-- (never_shown_again), proofs/Stripping, proofs/Repeated and proofs/RepeatedRepair (.. _shows_the_same), proofs/Alarms (no_false_alarm),
 -- proofs/Story (story). proofs/Examples has runs that are computed, the story among them.
 use Rattle.std.specs.Prelude.{◌≡◌, Bool, true, false, ◌&&◌, not, List, [], ◌⊎◌}
 use Rattle.numbers.specs.declared.Controller.{Controller}

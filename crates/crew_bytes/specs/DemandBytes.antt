@@ -1,6 +1,6 @@
 -- Demand 3 on bytes: what `read` writes into its buffer, at every moment of every run. Assumes nothing.
--- Each statement here is a theorem. Its proof has its name, in small letters: proofs/ShownBytes (shown-exactly-bytes, due-is-exact-bytes,
--- never-shown-again-bytes), proofs/OwnImages (own-images-good), proofs/AlarmsBytes (no-false-alarm-bytes). proofs/Followed has that every run of
+-- Each statement here is a theorem. Its proof has its name, in small letters: proofs/ShownBytes (shown_exactly_bytes, due_is_exact_bytes,
+-- never_shown_again_bytes), proofs/OwnImages (own_images_good), proofs/AlarmsBytes (no_false_alarm_bytes). proofs/Followed has that every run of
 -- bytes follows a run of states, and proofs/Realised that every run of states whose given contexts have eight entries is one of bytes.
 use Rattle.std.specs.Prelude.{ℕ, ◌<◌, ◌≤◌, ◌≡◌, true, false, List, length}
 use Rattle.numbers.specs.declared.Controller.{Controller}

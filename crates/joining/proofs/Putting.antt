@@ -1,4 +1,4 @@
--- The result_of of a merge put where its record stands, or would. Assumes nothing.
+-- The result of a merge put where its record stands, or would. Assumes nothing.
 use Prim.Native.Nat.{ℕ, ◌≤◌, ◌<◌, max}
 use mathlib.Core.Path.{◌≡◌, refl, ap, ap₂, sym, ◌∙◌, subst}
 use mathlib.Core.Bool.{Bool, true, false}

@@ -28,7 +28,7 @@ there_filled img size b x e k c h =
     h ∙ ap₂ (λ (t : CrewTable) (y : Key). fill_context t y.job k (decode_context (cut b 8 32))) (table_part img size) e
     ∙ ap (fill_context (decode img).table (key_in b).job k) (sym (context_of b))
 
--- with that context beside it, its object is the filled one, and its result_of the one that the definitions give
+-- with that context beside it, its object is the filled one, and its result the one that the definitions give
 module _ (s : State) (k : Clock) (b there : List ℕ) (same : map counter there ≡ (filled s k (decode_stored form_1 b)).context) where
   pub theirs_filled : theirs b there ≡ filled s k (decode_stored form_1 b)
   unfolding fill decode_stored

@@ -1,4 +1,4 @@
-// The library as C links it: each call, its answer told as document 01's number.
+// The nine calls and `good`, each answer told as document 01's number. Crate sqimrutta_c hands them to C.
 #![tactic(auto)]
 
 ghost use Rattle.std.specs.Prelude.{◌≡◌, if◌then◌else◌};
@@ -6,7 +6,7 @@ ghost use Rattle.refusal.specs.Refusal.{answer_number};
 ghost use Rattle.layout.specs.Image.{good_image};
 ghost use Rattle.opening.specs.CallContracts.{Starts, Reads, Writes, Deletes, TakesIn, Asks, Replies, Repairs, Strips};
 
-// For C: a slice is a pointer and a size_t. "An accepted call returns 0", a refused one the refusal's number.
+// "An accepted call returns 0", a refused one the refusal's number.
 #[unsafe(no_mangle)]
 pub extern "C" fn sqimrutta_start(image: &mut [u8], number: u8, table: &[u8]) -> u32
     ensures { Starts answer_number image.old number table.now result image.new }

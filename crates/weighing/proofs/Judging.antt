@@ -68,7 +68,7 @@ restored_length c ps i l =
 insert_length : (ps : List Stored) (i : ℕ) (r : Stored) → i ≤ length ps → length (insert_at ps i r) ≡ length ps + 1
 insert_length ps i r l = simp (length-append, length-take, length-drop) (omega arith)
 
--- a result_of takes one place more at most
+-- a result takes one place more at most
 pub put_grows : (c : Clock) (ps : List Stored) (r : Stored) → length (put c ps r) ≤ length ps + 1
 unfolding put without
 put_grows c ps r =
@@ -131,7 +131,7 @@ module _ (img : List ℕ) (small : Bytes img) (size : length img ≡ image_lengt
             subst (λ (x : Object). length x.versions ≤ 8) (sym (found_object img small size good k i at))
             (few_versions lent (subst Bytes (sym (part_is img (512 * (3 + i)) 512)) (bytes_cut img (512 * (3 + i)) 512 small)) (lent_long img small size good k i at) (record_laid img small size (good_canonical img good) i at.0))
 
-    -- the result_of takes the record's place, or less
+    -- the result takes the record's place, or less
     pub has_its_place : (c : Clock) → false ≡ ltb (length (decode img).points) (length (put c (decode img).points (result_of (decode img) m there)))
     has_its_place c =
         sym (le-ltb (length (decode img).points) (length (put c (decode img).points r))
@@ -140,7 +140,7 @@ module _ (img : List ℕ) (small : Bytes img) (size : length img ≡ image_lengt
         r : Stored
         r = result_of (decode img) m there
 
-    -- the result_of there
+    -- the result there
     pub merged_found : (c : Clock) (g : Bool) → g ≡ gone (strip c (merge (record { versions = (decode_point form_1 (take (512 * (3 + i) + 512 - 512 * (3 + i)) (drop (512 * (3 + i)) img))).object.versions; context = map counter here }) (theirs m there)))
         → g ≡ (has_record (key_in m) (decode img).points && gone (strip c (result_of (decode img) m there).object))
     merged_found c g e =
@@ -175,7 +175,7 @@ module _ (img : List ℕ) (small : Bytes img) (size : length img ≡ image_lengt
         alone : survivors (local s k) o ≡ []
         alone = same_survivors (local s k) no_object o (ap (λ (x : Object). x.versions) nothing_here) ∙ (unfold survivors in refl)
 
-    -- the result_of needs a place where it does not go
+    -- the result needs a place where it does not go
     module _ (c : Clock) (g : Bool) (e : g ≡ gone (strip c (merge (none_here here) (theirs m there)))) where
       goes_is : g ≡ gone (strip c (result_of (decode img) m there).object)
       goes_is = e ∙ ap (λ (x : Object). gone (strip c (merge x o))) (sym nothing_here)
