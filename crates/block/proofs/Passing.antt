@@ -52,6 +52,30 @@ module _ {n : ℕ} {f : ℕ → Bool} {i : ℕ} (p : Passing n f i) where
   pub all_passed : n ≤ i → true ≡ every (upto n f)
   all_passed l = sym (every_true n f (λ k h. p.so_far k (omega arith)))
 
+-- ---- a chain over the numbers below n: what its answer says of each of them is what `search (rules, ranges)` finds
+
+pub all_below : (r : Bool) (n : ℕ) (f : ℕ → Bool) → (r ≡ true → (k : ℕ) → k < n → f k ≡ true) → (r ≡ false → (k : ℕ) × (k < n) × (f k ≡ false)) → r ≡ every (upto n f)
+all_below true n f all one = sym (every_true n f (all refl))
+all_below false n f all one = let w = one refl in by_test (every (upto n f)) (λ q. never (every_at n f q w.0 w.1) w.2) (λ q. sym q)
+
+pub any_below : {A : Type 0} (r : Bool) (g : A → Bool) (n : ℕ) (f : ℕ → A) → (r ≡ true → (k : ℕ) × (k < n) × (g (f k) ≡ true)) → (r ≡ false → (k : ℕ) → k < n → g (f k) ≡ false)
+    → r ≡ some? g (upto n f)
+any_below {A} true g n f one none = let w = one refl in some_true n f w.0 w.1 w.2
+  where
+    some_true : (m : ℕ) (h : ℕ → A) (k : ℕ) → k < m → g (h k) ≡ true → true ≡ some? g (upto m h)
+    some_true zero h k l t = absurd (omega arith)
+    some_true (suc m) h zero l t = sym (ap (λ (b : Bool). b || some? g (upto m (λ i. h (suc i)))) t)
+    some_true (suc m) h (suc k) l t = or_right (g (h 0)) (some_true m (λ i. h (suc i)) k (omega arith) t)
+      where
+        or_right : (a : Bool) {b : Bool} → true ≡ b → true ≡ (a || b)
+        or_right true e = refl
+        or_right false e = e
+any_below {A} false g n f one none = sym (some_false n f (none refl))
+  where
+    some_false : (m : ℕ) (h : ℕ → A) → ((k : ℕ) → k < m → g (h k) ≡ false) → some? g (upto m h) ≡ false
+    some_false zero h t = refl
+    some_false (suc m) h t = ap (λ (b : Bool). b || some? g (upto m (λ i. h (suc i)))) (t 0 (omega arith)) ∙ some_false m (λ i. h (suc i)) (λ k l. t (suc k) (omega arith))
+
 -- ---- tests one after the other, each of which may end the function
 
 -- the answer w hangs on these tests
