@@ -1,5 +1,5 @@
 -- Which versions of a message arrive, as the code tests it: by the filled local entry. Assumes nothing.
-use Rattle.std.specs.Prelude.{if◌then◌else◌}
+use Rattle.std.specs.Prelude.{if◌then◌else◌, Ok}
 use Prim.Native.Nat.{ℕ, ◌+◌, ◌*◌, ◌-◌, ◌<◌, ◌≤◌, max}
 use mathlib.Core.Path.{◌≡◌, refl, ap, ap₂, sym, ◌∙◌, subst}
 use mathlib.Core.Bool.{Bool, true, false, ◌&&◌}
@@ -28,7 +28,6 @@ use Rattle.laws.proofs.ContextLaws.{fill_entry}
 use Rattle.layout.specs.Clocks.{decode_clock}
 use Rattle.layout.specs.PointBlock.{form_1, decode_point}
 use Rattle.layout.specs.Image.{image_length, decode}
-use Rattle.dots.specs.declared.Found.TheVariants.{At}
 use Rattle.record_edits.specs.Written.{Written}
 use Rattle.image.specs.Places.{PointIn}
 use Rattle.image.proofs.Placing.{look_up_at}
@@ -63,7 +62,7 @@ module _ (img : List ℕ) (size : length img ≡ image_length) (k : Key) (n : Co
       (q ∙ ap (λ (z : Clock). row z n) (clock_part img size))
       ∙ sym (fill_entry (decode img).table k.job (decode img).clock (look_up k (decode img).points).context n crew)
 
-module _ (img : List ℕ) (small : Bytes img) (size : length img ≡ image_length) (canonical : Canonical img) (up : ascends? stored_before (decode img).points ≡ true) (k : Key) (i : ℕ) (at : PointIn (decode img).points k (At i)) where
+module _ (img : List ℕ) (small : Bytes img) (size : length img ≡ image_length) (canonical : Canonical img) (up : ascends? stored_before (decode img).points ≡ true) (k : Key) (i : ℕ) (at : PointIn (decode img).points k (Ok i)) where
   -- what is stored for the point, read in its block
   pub object_there : look_up k (decode img).points ≡ (decode_point form_1 (take (512 * (3 + i) + 512 - 512 * (3 + i)) (drop (512 * (3 + i)) img))).object
   object_there = look_up_at k (decode img).points i up at ∙ sym (ap (λ (w : Written). w.point.object) (says img small size canonical i at.0).0)

@@ -1,5 +1,5 @@
 -- The rows of eight controllers, one after the other, each with the counters that arrive. Assumes nothing.
-use Rattle.std.specs.Prelude.{if◌then◌else◌}
+use Rattle.std.specs.Prelude.{if◌then◌else◌, Option, Some, None}
 use Prim.Native.Nat.{ℕ, ◌+◌, ◌-◌, ◌*◌, ◌≤◌, ◌<◌}
 use mathlib.Core.Path.{◌≡◌, refl, ap, sym, ◌∙◌, subst}
 use mathlib.Core.Bool.{Bool, true, false}
@@ -16,8 +16,6 @@ use Rattle.numbers.proofs.Controllers.{same_controllers}
 use Rattle.block.specs.Fields.{cut, put_at}
 use Rattle.block.proofs.Arrays.{upto_length}
 use Rattle.row.specs.declared.Row.{Row}
-use Rattle.row.specs.declared.Added.{Added}
-use Rattle.row.specs.declared.Added.TheVariants.{Now, TooFar}
 use Rattle.row.specs.Row.{none_seen, add, fits, sound}
 use Rattle.meaning.specs.Clock.{Clock, row, every_row}
 use Rattle.meaning.specs.State.{Stored, State}
@@ -30,41 +28,41 @@ use Rattle.arriving.specs.Sent.{arriving_with, with_arrivals}
 
 -- ---- one row
 
-now_is : (r : Row) (cs : List Counter) (a : Added) → a ≡ all_added r cs → (q : Row) → a ≡ Now q → (fits (fold add r cs) ≡ true) × (q ≡ fold add r cs)
+now_is : (r : Row) (cs : List Counter) (a : Option Row) → a ≡ all_added r cs → (q : Row) → a ≡ Some q → (fits (fold add r cs) ≡ true) × (q ≡ fold add r cs)
 unfolding all_added
 now_is r cs a e q h =
     by_test (fits (fold add r cs))
-    (λ t. (t, ap which (sym h ∙ e ∙ ap (λ (b : Bool). if b then Now (fold add r cs) else TooFar) t)))
-    (λ t. absurd (never {b = is_now (Now q)} refl (ap is_now (sym h ∙ e ∙ ap (λ (b : Bool). if b then Now (fold add r cs) else TooFar) t) ∙ refl)))
+    (λ t. (t, ap which (sym h ∙ e ∙ ap (λ (b : Bool). if b then Some (fold add r cs) else None) t)))
+    (λ t. absurd (never {b = is_now (Some q)} refl (ap is_now (sym h ∙ e ∙ ap (λ (b : Bool). if b then Some (fold add r cs) else None) t) ∙ refl)))
   where
-    which : Added → Row
-    which (Now x) = x
-    which TooFar = r
+    which : Option Row → Row
+    which (Some x) = x
+    which None = r
 
-    is_now : Added → Bool
-    is_now (Now x) = true
-    is_now TooFar = false
+    is_now : Option Row → Bool
+    is_now (Some x) = true
+    is_now None = false
 
-far_is : (r : Row) (cs : List Counter) (a : Added) → a ≡ all_added r cs → a ≡ TooFar → fits (fold add r cs) ≡ false
+far_is : (r : Row) (cs : List Counter) (a : Option Row) → a ≡ all_added r cs → a ≡ None → fits (fold add r cs) ≡ false
 unfolding all_added
 far_is r cs a e h =
     by_test (fits (fold add r cs))
-    (λ t. absurd (never {b = is_now (Now (fold add r cs))} refl (ap is_now (sym (ap (λ (b : Bool). if b then Now (fold add r cs) else TooFar) t) ∙ sym e ∙ h))))
+    (λ t. absurd (never {b = is_now (Some (fold add r cs))} refl (ap is_now (sym (ap (λ (b : Bool). if b then Some (fold add r cs) else None) t) ∙ sym e ∙ h))))
     (λ t. t)
   where
-    is_now : Added → Bool
-    is_now (Now x) = true
-    is_now TooFar = false
+    is_now : Option Row → Bool
+    is_now (Some x) = true
+    is_now None = false
 
 -- as the code enters it
-module _ (r q : Row) (cs : List Counter) (a : Added) (read : r ≡ q) (e : a ≡ all_added r cs) where
-  pub row_fits : (x : Row) → a ≡ Now x → true ≡ fits (fold add q cs)
+module _ (r q : Row) (cs : List Counter) (a : Option Row) (read : r ≡ q) (e : a ≡ all_added r cs) where
+  pub row_fits : (x : Row) → a ≡ Some x → true ≡ fits (fold add q cs)
   row_fits x h = sym (subst (λ (y : Row). fits (fold add y cs) ≡ true) read (now_is r cs a e x h).0)
 
-  pub row_now : (x : Row) → a ≡ Now x → x ≡ fold add q cs
+  pub row_now : (x : Row) → a ≡ Some x → x ≡ fold add q cs
   row_now x h = (now_is r cs a e x h).1 ∙ ap (λ (y : Row). fold add y cs) read
 
-  pub row_far : a ≡ TooFar → false ≡ fits (fold add q cs)
+  pub row_far : a ≡ None → false ≡ fits (fold add q cs)
   row_far h = sym (subst (λ (y : Row). fits (fold add y cs) ≡ false) read (far_is r cs a e h))
 
 -- ---- one after the other

@@ -1,6 +1,6 @@
 -- Counters tried one after the other, in passes: where none is left over, all are in; where one is and the base did not go up, the whole would
 -- not fit. Assumes nothing.
-use Rattle.std.specs.Prelude.{if◌then◌else◌}
+use Rattle.std.specs.Prelude.{if◌then◌else◌, Option, Some, None}
 use Prim.Native.Nat.{ℕ, ◌+◌, ◌≤◌, ◌<◌}
 use mathlib.Core.Path.{◌≡◌, refl, ap, sym, ◌∙◌, subst}
 use mathlib.Core.Logic.{◌⊎◌, inl, inr, ⊎_elim, ⊎_map}
@@ -16,8 +16,6 @@ use Rattle.numbers.specs.Words.{fold}
 use Rattle.numbers.specs.Numbers.{counter, last_counter}
 use Rattle.numbers.proofs.Tests.{by_test, never, ◌∈◌, here, there}
 use Rattle.row.specs.declared.Row.{Row}
-use Rattle.row.specs.declared.Added.{Added}
-use Rattle.row.specs.declared.Added.TheVariants.{Now, TooFar}
 use Rattle.row.specs.Row.{has, add, fits, sound, add_up}
 use Rattle.row.proofs.Members.{same_number, member, Clear, not_next, row_determined}
 use Rattle.row.proofs.Adding.{add_has, add_clear, add_base, add_all, add_all_has, add_all_clear, Positive}
@@ -207,18 +205,18 @@ module _ (cs : List Counter) (ok : Countable cs) where
       }
 
 -- what is answered
-pub all_in : (r : Row) (cs : List Counter) (base : ℕ) (t : Tried) → Passes r cs base t → t.left ≡ false → Now t.row ≡ all_added r cs
+pub all_in : (r : Row) (cs : List Counter) (base : ℕ) (t : Tried) → Passes r cs base t → t.left ≡ false → Some t.row ≡ all_added r cs
 unfolding all_added add_all
 all_in r cs base t P h =
-    ap (λ (b : Bool). if b then Now t.row else TooFar) (sym P.fit) ∙ ap (λ (x : Row). if fits x then Now x else TooFar) (P.done h)
+    ap (λ (b : Bool). if b then Some t.row else None) (sym P.fit) ∙ ap (λ (x : Row). if fits x then Some x else None) (P.done h)
 
-pub too_far : (r : Row) (cs : List Counter) (base : ℕ) (t : Tried) → Passes r cs base t → t.left ≡ true → t.row.base ≡ base → TooFar ≡ all_added r cs
+pub too_far : (r : Row) (cs : List Counter) (base : ℕ) (t : Tried) → Passes r cs base t → t.left ≡ true → t.row.base ≡ base → None ≡ all_added r cs
 unfolding all_added add_all
-too_far r cs base t P h e = sym (ap (λ (b : Bool). if b then Now (fold add r cs) else TooFar) (P.stuck h e))
+too_far r cs base t P h e = sym (ap (λ (b : Bool). if b then Some (fold add r cs) else None) (P.stuck h e))
 
 -- ---- one counter, as the code tries it
 
-pub says : (t : Tried) (c : Counter) (a b : Added) → a ≡ add_up t.row c → a ≡ b → told t b ≡ tried t c
+pub says : (t : Tried) (c : Counter) (a b : Option Row) → a ≡ add_up t.row c → a ≡ b → told t b ≡ tried t c
 unfolding tried
 says t c a b p q = ap (told t) (sym q ∙ p)
 
@@ -236,4 +234,4 @@ from_first r cs base t P = record {
 
 pub first_same : (r q : Row) (cs : List Counter) → add_all q cs ≡ add_all r cs → all_added q cs ≡ all_added r cs
 unfolding all_added add_all
-first_same r q cs e = ap (λ (x : Row). if fits x then Now x else TooFar) e
+first_same r q cs e = ap (λ (x : Row). if fits x then Some x else None) e

@@ -16,9 +16,8 @@ ghost use Rattle.image_edits.specs.Edits.{Canonical};
 ghost use Rattle.arriving.specs.Tried.{tried, all_added};
 ghost use Rattle.arriving.specs.Sent.{points_in, Few, counters_arriving, arriving_with, with_arrivals};
 
-use dots::Found;
 use numbers::{Controller, Counter, Dot, Key};
-use row::{Added, Row};
+use row::Row;
 
 // A row to which counters are added while they fit, and whether one was left over.
 #[derive(Clone, Copy)]
@@ -33,11 +32,11 @@ fn try_counter(t: Tried, c: Counter) -> Tried
 {
     let row = t.row;
     match row.add(c) {
-        Added::Now(r) => Tried {
+        Some(r) => Tried {
             row: r,
             left: t.left,
         },
-        Added::TooFar => Tried {
+        None => Tried {
             row: row,
             left: true,
         },
@@ -48,7 +47,7 @@ fn try_counter(t: Tried, c: Counter) -> Tried
 fn is_new_of(d: Dot, n: Controller, here: Counter) -> bool
     ensures { result ≡ (same_controller d.who n && ltb here.0 d.count.0) }
 {
-    d.who.0 == n.0 && here.0 < d.count.0
+    d.who == n && here < d.count
 }
 
 // Its counter is tried where it is one.
@@ -85,7 +84,7 @@ pub fn local_entry(image: &[u8], count: usize, k: Key, n: Controller) -> Counter
     let holder = parts::holds(&image[8..16], n, k.job);
     let r = parts::row_at(&image[16..112], n);
     match image::find_point(image, count, k) {
-        Found::At(i) => {
+        Ok(i) => {
             let at = 512 * (3 + i);
             object::filled_entry(
                 record::context_entry(&image[at..at + 512], n),
@@ -93,7 +92,7 @@ pub fn local_entry(image: &[u8], count: usize, k: Key, n: Controller) -> Counter
                 r.base,
             )
         }
-        Found::Before(_) => object::filled_entry(Counter(0), holder, r.base),
+        Err(_) => object::filled_entry(Counter(0), holder, r.base),
     }
 }
 
@@ -119,7 +118,7 @@ fn enter_points(image: &[u8], count: usize, points: &[u8], n: Controller, r: Row
 
 // "11 to 13 are judged on the step's result with no limit applied": a counter may be too far in one pass and fit in the next, so passes are made
 // until one leaves nothing over, or leaves something over and did not raise the base.
-fn enter_row(image: &[u8], count: usize, points: &[u8], n: Controller, r: Row) -> Added
+fn enter_row(image: &[u8], count: usize, points: &[u8], n: Controller, r: Row) -> Option<Row>
     requires { (length image.now ≡ image_length) × (good_image image.now ≡ true) × (count ≡ length (decode image.now).points) × Few points.now × Crew n × (sound r ≡ true) }
     ensures { result ≡ all_added r (arriving_with (decode image.now) n (points_in points.now)) }
 {
@@ -128,13 +127,13 @@ fn enter_row(image: &[u8], count: usize, points: &[u8], n: Controller, r: Row) -
     while t.left {
         let row = t.row;
         if row.base == base {
-            return Added::TooFar;
+            return None;
         }
         base = row.base;
         t = enter_points(image, count, points, n, row);
     }
     let whole = t.row;
-    Added::Now(whole)
+    Some(whole)
 }
 
 // Controller n's row, of eight.
@@ -156,11 +155,11 @@ fn enter_row_at(image: &[u8], count: usize, points: &[u8], n: Controller, rows: 
         × (length rows.new ≡ 96) }
 {
     match enter_row(image, count, points, n, parts::row_at(rows, n)) {
-        Added::Now(r) => {
+        Some(r) => {
             put_row(rows, n, r);
             true
         }
-        Added::TooFar => false,
+        None => false,
     }
 }
 

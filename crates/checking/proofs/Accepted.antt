@@ -4,7 +4,6 @@ use mathlib.Core.Path.{◌≡◌, ◌∙◌}
 use mathlib.Core.Bool.{true, false}
 use mathlib.Core.List.{List, [], ◌∷◌}
 use Rattle.numbers.specs.Words.{some?}
-use Rattle.refusal.specs.declared.Verdict.TheVariants.{Accepted, Refused}
 use Rattle.refusal.specs.declared.Refusal.{Refusal}
 use Rattle.refusal.specs.declared.Refusal.TheVariants.{WrongCheck, IllFormed, OutOfRange, NotPeer, HistoryLost, DotClash}
 use Rattle.refusal.specs.Refusal.{Answer, refused, ◌>>=◌, verdict_of}
@@ -19,6 +18,7 @@ use Rattle.laws.proofs.StaysGood.{outgoing_carried}
 use Rattle.layout.specs.Messages.{checks_right, decode_outgoing, laid_out_outgoing}
 use Rattle.layout.specs.Calls.{with_message}
 use Rattle.checking.specs.Judged.{outgoing_judged, message_judged}
+use Rattle.std.specs.Prelude.{Ok, Err}
 
 -- what rows 3 to 10 leave of a message
 pub record MessageFacts (message : List ℕ) (s : State) : Type 0 where
@@ -40,7 +40,7 @@ module _ (message : List ℕ) (s : State) where
   abbrev q : Outgoing
   q = decode_outgoing message
 
-  pub judged_facts : verdict_of (message_judged message s true) ≡ Accepted → MessageFacts message s
+  pub judged_facts : verdict_of (message_judged message s true) ≡ Ok tt → MessageFacts message s
   unfolding message_judged with_message outgoing_judged
   judged_facts e =
       let a = (accepted_with (message_judged message s true) e).1 in
@@ -65,10 +65,10 @@ module _ (message : List ℕ) (s : State) where
         message_rows (checks_right message) (laid_out_outgoing message) (outgoing_formed s.table q) (both_hold s q.sender q.key) (other_peer s q.sender) (ahead_of_us s q.object)
         (some? (clashes s q.key) q.object.versions) (settle s s.clock (result ∷ [])) g
 
-    pub judged_refused : (r : Refusal) → verdict_of (message_judged message s true) ≡ Refused r → with_message message (laid_out_outgoing message) (take_in s (decode_outgoing message) >>= g) ≡ refused r
+    pub judged_refused : (r : Refusal) → verdict_of (message_judged message s true) ≡ Err r → with_message message (laid_out_outgoing message) (take_in s (decode_outgoing message) >>= g) ≡ refused r
     judged_refused r e = any_state ∙ by_refusal (settle s s.clock (result ∷ []) >>= g) (message_judged message s true) r e
 
-    pub judged_accepted : verdict_of (message_judged message s true) ≡ Accepted
+    pub judged_accepted : verdict_of (message_judged message s true) ≡ Ok tt
         → with_message message (laid_out_outgoing message) (take_in s (decode_outgoing message) >>= g)
         ≡ (settle s s.clock (record { key = (decode_outgoing message).key; object = merge (local s (decode_outgoing message).key) (decode_outgoing message).object } ∷ []) >>= g)
     judged_accepted e = any_state ∙ by_none (settle s s.clock (result ∷ []) >>= g) (message_judged message s true) e

@@ -1,6 +1,6 @@
 -- "No dot stands in two records": where the record of a message's point has a version's dot it settles whether that version clashes, and elsewhere
 -- whoever has the dot clashes. Assumes nothing.
-use Rattle.std.specs.Prelude.{if◌then◌else◌}
+use Rattle.std.specs.Prelude.{if◌then◌else◌, Ok, Err}
 use Prim.Native.Nat.{ℕ}
 use mathlib.Core.Path.{◌≡◌, ap, sym, ◌∙◌, subst}
 use mathlib.Core.Bool.{Bool, true, false, ◌&&◌, not}
@@ -20,7 +20,6 @@ use Rattle.meaning.specs.Object.{same_contents, Version, version_before, has_dot
 use Rattle.meaning.specs.State.{Stored, stored_before, State}
 use Rattle.laws.proofs.Goodness.{Good}
 use Rattle.laws.proofs.MergeLaws.{has_dot_of, of_has_dot}
-use Rattle.dots.specs.declared.Found.TheVariants.{At, Before}
 use Rattle.object.specs.Versions.{no_version, VersionIn}
 use Rattle.store.specs.HasRecord.{has_record}
 use Rattle.checking.specs.Points.{versions_clash, record_clashes, stored_somewhere, clashes_beside}
@@ -112,7 +111,7 @@ of_record s G k q there its vs = turned k s.points vs (clashes_beside s.points q
 
 module _ (ps : List Stored) (ws : List Version) (v : Version) (i : ℕ) where
   -- within a record a dot stands once
-  pub found_here : Ascends version_before ws → VersionIn ws v.dot (At i) → not (same_contents v.contents (get_or ws i no_version).contents) ≡ clashes_beside ps ws v
+  pub found_here : Ascends version_before ws → VersionIn ws v.dot (Ok i) → not (same_contents v.contents (get_or ws i no_version).contents) ≡ clashes_beside ps ws v
   unfolding clashes_beside versions_clash
   found_here up at = sym (ap (λ (b : Bool). if b then some? clash ws else stored_somewhere ps v.dot) has ∙ same_test (some? clash ws) (not (same_contents v.contents w.contents)) to from)
     where
@@ -144,7 +143,7 @@ module _ (ps : List Stored) (ws : List Version) (v : Version) (i : ℕ) where
       from : not (same_contents v.contents w.contents) ≡ true → some? clash ws ≡ true
       from t = in_some clash ws inside (clash_is ∙ t)
 
-  pub not_here : VersionIn ws v.dot (Before i) → stored_somewhere ps v.dot ≡ clashes_beside ps ws v
+  pub not_here : VersionIn ws v.dot (Err i) → stored_somewhere ps v.dot ≡ clashes_beside ps ws v
   unfolding clashes_beside has_dot
   not_here new = sym (ap (λ (b : Bool). if b then some? (versions_clash true v) ws else stored_somewhere ps v.dot) none)
     where

@@ -11,10 +11,8 @@ use Rattle.numbers.specs.Words.{some?, same_list}
 use Rattle.numbers.specs.Numbers.{controller, is_controller, Crew}
 use Rattle.numbers.proofs.Lists.{clause}
 use Rattle.numbers.proofs.Controllers.{crew_is}
-use Rattle.refusal.specs.declared.Verdict.{Verdict}
-use Rattle.refusal.specs.declared.Verdict.TheVariants.{Accepted, Refused}
 use Rattle.refusal.specs.declared.Refusal.TheVariants.{WrongCheck, IllFormed, OutOfRange, NotPeer, HistoryLost, DotClash}
-use Rattle.refusal.specs.Refusal.{refuse◌when◌else◌, verdict_of}
+use Rattle.refusal.specs.Refusal.{refuse◌when◌else◌, verdict_of, Verdict}
 use Rattle.row.specs.declared.Row.{Row}
 use Rattle.block.specs.Fields.{cut, field}
 use Rattle.block.specs.Block.{Laid}
@@ -38,6 +36,7 @@ use Rattle.store.proofs.Lent.{table_part, clock_part, own_part}
 use Rattle.checking.specs.Points.{above}
 use Rattle.checking.specs.Judged.{outgoing_judged, message_judged}
 use Rattle.checking.proofs.Ahead.{above_is}
+use Rattle.std.specs.Prelude.{Ok, Err}
 
 -- ---- the message's bytes
 
@@ -121,43 +120,43 @@ clash_is s m r t e q = sym e ∙ q
 -- ---- rows 5 to 10
 
 module _ (s : State) (m : Outgoing) where
-  pub not_held : both_hold s m.sender m.key ≡ false → Refused OutOfRange ≡ verdict_of (outgoing_judged s m true)
+  pub not_held : both_hold s m.sender m.key ≡ false → Err OutOfRange ≡ verdict_of (outgoing_judged s m true)
   unfolding outgoing_judged refuse◌when◌else◌
   not_held h = sym (rw h)
 
   module _ (held : both_hold s m.sender m.key ≡ true) where
-    pub no_peer : other_peer s m.sender ≡ false → Refused NotPeer ≡ verdict_of (outgoing_judged s m true)
+    pub no_peer : other_peer s m.sender ≡ false → Err NotPeer ≡ verdict_of (outgoing_judged s m true)
     unfolding outgoing_judged refuse◌when◌else◌
     no_peer h = sym (rw (held, h))
 
     module _ (peer : other_peer s m.sender ≡ true) where
-      pub history_gone : ahead_of_us s m.object ≡ true → Refused HistoryLost ≡ verdict_of (outgoing_judged s m true)
+      pub history_gone : ahead_of_us s m.object ≡ true → Err HistoryLost ≡ verdict_of (outgoing_judged s m true)
       unfolding outgoing_judged refuse◌when◌else◌
       history_gone h = sym (rw (held, peer, h))
 
       module _ (kept : ahead_of_us s m.object ≡ false) where
-        pub dot_clash : some? (clashes s m.key) m.object.versions ≡ true → Refused DotClash ≡ verdict_of (outgoing_judged s m true)
+        pub dot_clash : some? (clashes s m.key) m.object.versions ≡ true → Err DotClash ≡ verdict_of (outgoing_judged s m true)
         unfolding outgoing_judged refuse◌when◌else◌
         dot_clash h = sym (rw (held, peer, kept, h))
 
-        pub may_take : some? (clashes s m.key) m.object.versions ≡ false → Accepted ≡ verdict_of (outgoing_judged s m true)
+        pub may_take : some? (clashes s m.key) m.object.versions ≡ false → (Ok tt) ≡ verdict_of (outgoing_judged s m true)
         unfolding outgoing_judged refuse◌when◌else◌
         may_take h = sym (rw (held, peer, kept, h))
 
 -- ---- rows 3 and 4, and then those
 
 module _ (message : List ℕ) (s : State) where
-  pub wrong_check : checks_right message ≡ false → Refused WrongCheck ≡ verdict_of (message_judged message s true)
+  pub wrong_check : checks_right message ≡ false → Err WrongCheck ≡ verdict_of (message_judged message s true)
   unfolding message_judged with_message refuse◌when◌else◌
   wrong_check h = sym (rw h)
 
   module _ (checked : checks_right message ≡ true) where
-    pub not_laid_out : laid_out_outgoing message ≡ false → Refused IllFormed ≡ verdict_of (message_judged message s true)
+    pub not_laid_out : laid_out_outgoing message ≡ false → Err IllFormed ≡ verdict_of (message_judged message s true)
     unfolding message_judged with_message refuse◌when◌else◌
     not_laid_out h = sym (rw (checked, h))
 
     module _ (laid : laid_out_outgoing message ≡ true) where
-      pub not_formed : outgoing_formed s.table (decode_outgoing message) ≡ false → Refused IllFormed ≡ verdict_of (message_judged message s true)
+      pub not_formed : outgoing_formed s.table (decode_outgoing message) ≡ false → Err IllFormed ≡ verdict_of (message_judged message s true)
       unfolding message_judged with_message refuse◌when◌else◌
       not_formed h = sym (rw (checked, laid, h))
 

@@ -18,16 +18,15 @@ ghost use Rattle.record_edits.specs.Written.{lay_point, point_block};
 ghost use Rattle.checking.specs.Points.{dot_above, above, record_clashes, stored_somewhere, clashes_beside, list_clashes};
 ghost use Rattle.checking.specs.Judged.{outgoing_judged, message_judged};
 
-use dots::Found;
 use numbers::{Controller, Dot};
-use refusal::{Refusal, Verdict};
+use refusal::Refusal;
 
 // ---- 9: "message names, in a dot, context or clock row, an own counter above our base: our history is lost"
 
 fn dot_above(d: Dot, own: Controller, base: u32) -> bool
     ensures { result ≡ dot_above own base d }
 {
-    if d.who.0 != own.0 {
+    if d.who != own {
         return false;
     }
     base < d.count.0
@@ -92,8 +91,8 @@ fn version_otherwise(image: &[u8], count: usize, b: &[u8], j: usize, p: &[u8]) -
 {
     let d = record::version_dot(b, j);
     match object::find_version(p, d) {
-        Found::At(i) => slots_differ(b, j, p, i),
-        Found::Before(_) => stored_somewhere(image, count, d),
+        Ok(i) => slots_differ(b, j, p, i),
+        Err(_) => stored_somewhere(image, count, d),
     }
 }
 
@@ -136,11 +135,11 @@ fn stored_otherwise(image: &[u8], count: usize, b: &[u8]) -> bool
     ensures { result ≡ some? (λ p. some? (record_clashes (decode_point form_1 b.now).key p) (decode_point form_1 b.now).object.versions) (decode image.now).points }
 {
     match image::find_point(image, count, record::key_of(b)) {
-        Found::At(i) => {
+        Ok(i) => {
             let at = 512 * (3 + i);
             known_otherwise(image, count, b, &image[at..at + 512])
         }
-        Found::Before(_) => new_otherwise(image, count, b),
+        Err(_) => new_otherwise(image, count, b),
     }
 }
 
@@ -215,38 +214,38 @@ fn history_lost(image: &[u8], message: &[u8]) -> bool
 }
 
 // The first of rows 5, 6, 9 and 10 that applies to a well-formed message.
-fn judge_outgoing(image: &[u8], message: &[u8]) -> Verdict
+fn judge_outgoing(image: &[u8], message: &[u8]) -> Result<(), Refusal>
     requires { (length image.now ≡ image_length) × (good_image image.now ≡ true) × (length message.now ≡ 512) × Laid lay_point point_block message.now × Crew (decode_outgoing message.now).sender }
     ensures { result ≡ verdict_of (outgoing_judged (decode image.now) (decode_outgoing message.now) true) }
 {
     if !job_held(image, message) {
-        return Verdict::Refused(Refusal::OutOfRange);
+        return Err(Refusal::OutOfRange);
     }
     if !exchange::other_peer(image, sender_of(message)) {
-        return Verdict::Refused(Refusal::NotPeer);
+        return Err(Refusal::NotPeer);
     }
     if history_lost(image, message) {
-        return Verdict::Refused(Refusal::HistoryLost);
+        return Err(Refusal::HistoryLost);
     }
     if clashing(image, image::stored_count(image), message) {
-        return Verdict::Refused(Refusal::DotClash);
+        return Err(Refusal::DotClash);
     }
-    Verdict::Accepted
+    Ok(())
 }
 
 // The first refusal from 3 to 10 that applies to the message.
-pub fn judge_message(image: &[u8], message: &[u8]) -> Verdict
+pub fn judge_message(image: &[u8], message: &[u8]) -> Result<(), Refusal>
     requires { (length image.now ≡ image_length) × (good_image image.now ≡ true) × (length message.now ≡ 512) }
     ensures { result ≡ verdict_of (message_judged message.now (decode image.now) true) }
 {
     if !block::is_sealed(message) {
-        return Verdict::Refused(Refusal::WrongCheck);
+        return Err(Refusal::WrongCheck);
     }
     if !record::point_laid_out(message, 4, 0) {
-        return Verdict::Refused(Refusal::IllFormed);
+        return Err(Refusal::IllFormed);
     }
     if !message_formed(message, &image[8..16]) {
-        return Verdict::Refused(Refusal::IllFormed);
+        return Err(Refusal::IllFormed);
     }
     judge_outgoing(image, message)
 }

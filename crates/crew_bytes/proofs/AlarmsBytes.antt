@@ -7,10 +7,8 @@ use lib.ListN.{length}
 use lib.Dec.{leb}
 use borrow.Author.Tests.{eq-eqb, le-leb}
 use Rattle.numbers.proofs.Tests.{never, and_both}
-use Rattle.refusal.specs.declared.Verdict.{Verdict}
-use Rattle.refusal.specs.declared.Verdict.TheVariants.{Accepted, Refused}
 use Rattle.refusal.specs.declared.Refusal.{Refusal}
-use Rattle.refusal.specs.Refusal.{Answer, refused, accepted, ◌>>=◌}
+use Rattle.refusal.specs.Refusal.{Answer, refused, accepted, ◌>>=◌, Verdict}
 use Rattle.meaning.specs.CrewTable.{CrewTable}
 use Rattle.meaning.specs.State.{State}
 use Rattle.meaning.specs.Message.{Outgoing, Ask, Reply, outgoing_formed, ask_formed, reply_formed}
@@ -30,12 +28,13 @@ use Rattle.crew_bytes.proofs.Followed.{outgoing_of, ask_of, reply_of}
 use Rattle.crew_bytes.proofs.Called.{passes_image, message_passes}
 use Rattle.crew_bytes.proofs.ShownBytes.{pictured, is_started}
 use Rattle.crew_bytes.proofs.Saying.{Says, says_take_in, says_reply, says_repair}
+use Rattle.std.specs.Prelude.{Ok, Err}
 
 abbrev Above : ℕ → Type 0
 Above k = 4 < k
 
 -- a refused call is refused by its step
-refused_step : {A : Type 0} (img out : List ℕ) (x : Answer A) (f : A → Left) (q : Refusal) → (afterwards img out (x >>= λ y. accepted (f y))).verdict ≡ Refused q → x ≡ refused q
+refused_step : {A : Type 0} (img out : List ℕ) (x : Answer A) (f : A → Left) (q : Refusal) → (afterwards img out (x >>= λ y. accepted (f y))).verdict ≡ Err q → x ≡ refused q
 unfolding afterwards
 refused_step img out (refused r) f q e = ap refused same
   where
@@ -44,8 +43,8 @@ refused_step img out (refused r) f q e = ap refused same
 refused_step img out (accepted y) f q e = absurd (subst is_accepted e tt)
   where
     is_accepted : Verdict → Type 0
-    is_accepted Accepted = Unit {0}
-    is_accepted (Refused z) = ⊥
+    is_accepted (Ok _) = Unit {0}
+    is_accepted (Err z) = ⊥
 
 -- a call with a message that passes all tests on bytes
 module _ (img : List ℕ) (s : State) (g : good_state s ≡ true) (e : img ≡ encode s) where

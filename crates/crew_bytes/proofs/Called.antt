@@ -11,7 +11,6 @@ use Rattle.numbers.specs.Words.{map}
 use Rattle.numbers.specs.Numbers.{controller, counter}
 use Rattle.numbers.specs.Key.{key}
 use Rattle.numbers.proofs.Tests.{and_both}
-use Rattle.refusal.specs.declared.Verdict.TheVariants.{Accepted, Refused}
 use Rattle.refusal.specs.declared.Refusal.{Refusal}
 use Rattle.refusal.specs.declared.Refusal.TheVariants.{WrongLength, ImageNotGood, WrongCheck, IllFormed}
 use Rattle.refusal.specs.Refusal.{Answer, accepted, refuse◌when◌else◌, ◌>>=◌}
@@ -31,10 +30,11 @@ use Rattle.layout.proofs.Sizes.{good_sized}
 use Rattle.layout.proofs.CallsGood.{good_image_lem, encode_good, refused_leaves, accepted_leaves, on_good_image, message_passed}
 use Rattle.crew_bytes.specs.Bytes as bytes
 use Rattle.crew_bytes.specs.Bytes.{Answers, CallOn}
+use Rattle.std.specs.Prelude.{Ok, Err}
 
 -- what an accepted call leaves
 abbrev pub leaving : List ℕ → List ℕ → ℕ → After
-leaving image out count = record { verdict = Accepted; image = image; out = out; count = count }
+leaving image out count = record { verdict = Ok tt; image = image; out = out; count = count }
 
 -- an accepted answer is that of what its step left
 accepted_is : (img out : List ℕ) (x : Answer Left) (a : After) → Answers (afterwards img out x) a → (l : Left) × (x ≡ accepted l) × (a ≡ leaving l.image l.out l.count)
@@ -57,7 +57,7 @@ left_of x f l a e p =
     (q.0, q.1, p ∙ ap (λ (z : Left). leaving z.image z.out z.count) (sym (same_accepted (f q.0) l q.2)))
 
 -- a refused call leaves the image as it was
-pub refused_stays : (img : List ℕ) (a : After) → CallOn img a → (r : Refusal) → a.verdict ≡ Refused r → a.image ≡ img
+pub refused_stays : (img : List ℕ) (a : After) → CallOn img a → (r : Refusal) → a.verdict ≡ Err r → a.image ≡ img
 unfolding start_call read_call write_call delete_call take_in_call ask_call reply_call repair_call strip_pass_call
 refused_stays img a (bytes.call_start n table) r e = (refused_leaves img [] _ r e).0
 refused_stays img a (bytes.call_read job point out) r e = (refused_leaves img out _ r e).0

@@ -12,7 +12,6 @@ use Rattle.numbers.specs.Numbers.{same_controller, controller, counter}
 use Rattle.numbers.specs.Key.{key}
 use Rattle.numbers.proofs.Tests.{◌∈◌}
 use Rattle.numbers.proofs.Lists.{in_map}
-use Rattle.refusal.specs.declared.Verdict.TheVariants.{Refused}
 use Rattle.refusal.specs.declared.Refusal.{Refusal}
 use Rattle.refusal.specs.declared.Refusal.TheVariants.{IllFormed, NotPeer, HistoryLost}
 use Rattle.refusal.specs.Refusal.{accepted}
@@ -42,6 +41,7 @@ use Rattle.crew_bytes.specs.Bytes as bytes
 use Rattle.crew_bytes.specs.Bytes.{CallOn, ByteMoment, left_by, started_by, seen_by, written_by, asked_by, replied_by, said, reply_said, NextByte, LaterByte, ◌then◌}
 use Rattle.crew_bytes.proofs.Called.{refused_stays, start_does, decoded, read_does, write_does, delete_does, take_in_does, ask_does, reply_does, repair_does, strip_pass_does}
 use Rattle.crew_bytes.proofs.Pictured.{in_bytes, reply_in_bytes, Pictures, left_pictured, started_pictured, seen_pictured, written_pictured, asked_pictured, replied_pictured}
+use Rattle.std.specs.Prelude.{Err}
 
 -- ---- a reply's buffer
 
@@ -112,7 +112,7 @@ module _ (t : CrewTable) (B : ByteMoment) (M : Moment) (S : Sound t M) (P : Pict
   same_made : (k : Key) (b : Contents) (c : Context) → made (decode img) k b c ≡ made s k b c
   same_made k b c = ap (λ (z : State). made z k b c) (decoded img s g is_image)
 
-  follow_refused : (a : After) → CallOn img a → (r : Refusal) → a.verdict ≡ Refused r → Followed t M (left_by B n a)
+  follow_refused : (a : After) → CallOn img a → (r : Refusal) → a.verdict ≡ Err r → Followed t M (left_by B n a)
   follow_refused a call r e = (M, run.refuses, left_pictured t B M P n a (refused_stays img a call r e ∙ is_image))
 
   follow_read : (job point : ℕ) (out : List ℕ) (a : After) → bytes.Answers (read_call img job point out) a → Followed t M (left_by B n a)

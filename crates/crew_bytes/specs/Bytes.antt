@@ -1,11 +1,10 @@
 -- A crew on bytes: its controllers are images, its messages are bytes, and a run is any sequence of the nine calls on lent bytes. Assumes nothing.
 -- What each call does is layout's Calls. What is seen, and which writes are made, is counted as in crate crew (Moment, Run), by what the bytes say.
-use Rattle.std.specs.Prelude.{ℕ, ◌+◌, ◌*◌, ◌≡◌, Bool, true, false, List, [], ◌∷◌, ◌++◌, take}
+use Rattle.std.specs.Prelude.{ℕ, ◌+◌, ◌*◌, ◌≡◌, Bool, true, false, List, [], ◌∷◌, ◌++◌, take, Ok, Err}
 use Rattle.numbers.specs.declared.Controller.{Controller}
 use Rattle.numbers.specs.Words.{map}
 use Rattle.numbers.specs.Numbers.{counter}
 use Rattle.numbers.specs.Key.{key}
-use Rattle.refusal.specs.declared.Verdict.TheVariants.{Accepted, Refused}
 use Rattle.refusal.specs.declared.Refusal.{Refusal}
 use Rattle.meaning.specs.CrewTable.{CrewTable}
 use Rattle.meaning.specs.Object.{value, deleted}
@@ -133,7 +132,7 @@ reply_said r = record { message = decode_reply r.message; seen = r.seen }
 
 -- the call answered 0, and left and wrote what a says
 abbrev pub Answers : After → After → Type 0
-Answers call a = (call ≡ a) × (a.verdict ≡ Accepted)
+Answers call a = (call ≡ a) × (a.verdict ≡ Ok tt)
 
 -- the nine calls on an image, whatever else is given and lent to them, and what there is afterwards
 pub data CallOn (image : List ℕ) : After → Type 0 where
@@ -152,7 +151,7 @@ pub data NextByte (t : CrewTable) (B : ByteMoment) : ByteMoment → Type 0 where
   -- each number is started once, with the crew's table
   starts : (n : Controller) → B.started n ≡ false → (lent : List ℕ) (a : After) → Answers (start_call lent n.0 t) a → NextByte t B (started_by B n a)
   -- any call that is refused, whatever it was given, also bytes that no call of the run wrote
-  refuses : (n : Controller) → B.started n ≡ true → (a : After) → CallOn (B.image n) a → (r : Refusal) → a.verdict ≡ Refused r → NextByte t B (left_by B n a)
+  refuses : (n : Controller) → B.started n ≡ true → (a : After) → CallOn (B.image n) a → (r : Refusal) → a.verdict ≡ Err r → NextByte t B (left_by B n a)
   reads : (n : Controller) → B.started n ≡ true → (job point : ℕ) (out : List ℕ) (a : After) → Answers (read_call (B.image n) job point out) a
       → NextByte t B (left_by B n a)
   writes : (n : Controller) → B.started n ≡ true → (job point : ℕ) (v context out : List ℕ) (a : After) → Bytes v

@@ -2,11 +2,10 @@
 -- Each statement here is a theorem. Its proof has its name, in small letters: proofs/ShownBytes (shown_exactly_bytes, due_is_exact_bytes,
 -- never_shown_again_bytes), proofs/OwnImages (own_images_good), proofs/AlarmsBytes (no_false_alarm_bytes). proofs/Followed has that every run of
 -- bytes follows a run of states, and proofs/Realised that every run of states whose given contexts have eight entries is one of bytes.
-use Rattle.std.specs.Prelude.{ℕ, ◌<◌, ◌≤◌, ◌≡◌, true, false, List, length}
+use Rattle.std.specs.Prelude.{ℕ, ◌<◌, ◌≤◌, ◌≡◌, true, false, List, length, Ok, Err}
 use Rattle.numbers.specs.declared.Controller.{Controller}
 use Rattle.numbers.specs.declared.Key.{Key}
 use Rattle.numbers.specs.Key.{key, is_key}
-use Rattle.refusal.specs.declared.Verdict.TheVariants.{Accepted, Refused}
 use Rattle.refusal.specs.declared.Refusal.{Refusal}
 use Rattle.refusal.specs.Refusal.{number, answer_number}
 use Rattle.meaning.specs.CrewTable.{CrewTable, is_table, holds}
@@ -27,7 +26,7 @@ ShownExactlyBytes =
     (t : CrewTable) → is_table t ≡ true → (B : ByteMoment) → ReachedByte t B → (n : Controller) → B.started n ≡ true
     → (job point : ℕ) → is_key (key job point) ≡ true → holds t n job ≡ true → (out : List ℕ) → length out ≡ 512
     → (o : Outgoing)
-    × ((read_call (B.image n) job point out).verdict ≡ Accepted)
+    × ((read_call (B.image n) job point out).verdict ≡ Ok tt)
     × ((read_call (B.image n) job point out).out ≡ encode_reading o)
     × (decode_outgoing (read_call (B.image n) job point out).out ≡ o)
     × (o.object.versions ≡ due (key job point) (B.seen n))
@@ -43,7 +42,7 @@ unfoldable pub NeverShownAgainBytes : Type 0
 NeverShownAgainBytes =
     (t : CrewTable) → is_table t ≡ true → (B C : ByteMoment) → ReachedByte t B → LaterByte t B C
     → (n : Controller) → C.started n ≡ true → (w u : Write) → w ∈ C.writes → u ∈ B.seen n → covers_write u w ≡ true
-    → (job point : ℕ) (out : List ℕ) → (read_call (C.image n) job point out).verdict ≡ Accepted
+    → (job point : ℕ) (out : List ℕ) → (read_call (C.image n) job point out).verdict ≡ Ok tt
     → has_dot (decode_outgoing (read_call (C.image n) job point out).out).object.versions w.dot ≡ false
 
 -- "no own image [is refused] with 2": every image of a run is good, and no call on it is refused with 2, whatever else is given and lent to it
@@ -54,7 +53,7 @@ OwnImagesGood =
 
 -- refused, if at all, with a number above 4 that is not 9 and not 10: so not for its bytes, nor for a history lost, nor for a clash
 abbrev pub NoAlarmBytes : After → Type 0
-NoAlarmBytes a = (q : Refusal) → a.verdict ≡ Refused q → (4 < number q) × (number q ≡ 9 → ⊥) × (number q ≡ 10 → ⊥)
+NoAlarmBytes a = (q : Refusal) → a.verdict ≡ Err q → (4 < number q) × (number q ≡ 9 → ⊥) × (number q ≡ 10 → ⊥)
 
 -- no message that a call of the run wrote is refused otherwise by any controller, at any time
 unfoldable pub NoFalseAlarmBytes : Type 0

@@ -1,5 +1,5 @@
 -- The entries of a dots block one by one, what is asked of each, and what a search finds. Assumes nothing.
-use Rattle.std.specs.Prelude.{ℕ, ◌+◌, ◌*◌, ◌≤◌, ◌<◌, ◌≡◌, Bool, true, not, List, [], ◌∷◌, length, take, drop, get_or, if◌then◌else◌}
+use Rattle.std.specs.Prelude.{ℕ, ◌+◌, ◌*◌, ◌≤◌, ◌<◌, ◌≡◌, Bool, true, not, List, [], ◌∷◌, length, take, drop, get_or, if◌then◌else◌, Result, Ok, Err}
 use Rattle.numbers.specs.declared.Controller.{Controller}
 use Rattle.numbers.specs.declared.Dot.{Dot}
 use Rattle.numbers.specs.Words.{every, all?}
@@ -12,8 +12,6 @@ use Rattle.meaning.specs.Clock.{Clock, in_clock}
 use Rattle.meaning.specs.State.{Listed}
 use Rattle.meaning.specs.Good.{listed_formed}
 use Rattle.layout.specs.Image.{decode_entry}
-use Rattle.dots.specs.declared.Found.{Found}
-use Rattle.dots.specs.declared.Found.TheVariants.{At, Before}
 use Rattle.dots.specs.DotsGood.{in_its_list}
 
 -- entry i of a block
@@ -33,9 +31,9 @@ abbrev pub no_entry : Listed
 no_entry = record { dot = dot 0 0; key = key 0 0 }
 
 -- the entry that was found is one of the dot; where none was, those before the place come before the dot, and the others after it
-abbrev pub FoundIn : List Listed → Dot → Found → Type 0
-FoundIn ls d (At i) = (i < length ls) × ((get_or ls i no_entry).dot ≡ d)
-FoundIn ls d (Before i) =
+abbrev pub FoundIn : List Listed → Dot → Result ℕ ℕ → Type 0
+FoundIn ls d (Ok i) = (i < length ls) × ((get_or ls i no_entry).dot ≡ d)
+FoundIn ls d (Err i) =
     (i ≤ length ls)
     × (all? (λ l. dot_before l.dot d) (take i ls) ≡ true)
     × (all? (λ l. dot_before d l.dot) (drop i ls) ≡ true)

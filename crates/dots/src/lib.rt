@@ -16,13 +16,6 @@ ghost use Rattle.dots.specs.Entries.{right_list, entry_good, FoundIn};
 
 use numbers::{Controller, Counter, Dot, Key, Point};
 
-// Where a dot is listed, counted from 0, or, where it is not, the place before which it would stand.
-#[derive(Clone, Copy)]
-pub enum Found {
-    At(usize),
-    Before(usize),
-}
-
 // "4-5 count"
 pub fn entry_count(b: &[u8]) -> u16
     requires { length b.now ≡ 512 }
@@ -87,9 +80,9 @@ fn in_its_list(mine: bool, who: Controller, own: Controller) -> bool
     ensures { result ≡ right_list mine own who }
 {
     if mine {
-        return who.0 == own.0;
+        return who == own;
     }
-    who.0 != own.0
+    who != own
 }
 
 // What is asked of one listed dot: its ranges, "dots name holders of the job", its list, "every listed dot is of a held job" and "listed dots are
@@ -157,8 +150,9 @@ pub fn dots_good(b: &[u8], mine: bool, own: Controller, table: &[u8], rows: &[u8
     true
 }
 
-// Where the dot is listed, by halves: it lies at `low` or behind it, and before `high`.
-fn search_dot(b: &[u8], d: Dot) -> Found
+// Where the dot is listed, counted from 0, or, where it is not, the place before which it would stand, as an error. It is looked for by halves: it lies
+// at `low` or behind it, and before `high`.
+fn search_dot(b: &[u8], d: Dot) -> Result<usize, usize>
     requires { (length b.now ≡ 512)
         × (field b.now 4 2 ≤ 60)
         × (ascends? listed_before (decode_dots b.now) ≡ true) }
@@ -173,17 +167,17 @@ fn search_dot(b: &[u8], d: Dot) -> Found
             low = mid + 1;
         } else {
             if !d.before(e) {
-                return Found::At(mid);
+                return Ok(mid);
             }
             high = mid;
         }
     }
-    Found::Before(low)
+    Err(low)
 }
 
 // Where the dot is listed. One that comes before the first or after the last is not looked for: so it is with all other controllers' dots in the
 // list of own ones.
-pub fn find_dot(b: &[u8], d: Dot) -> Found
+pub fn find_dot(b: &[u8], d: Dot) -> Result<usize, usize>
     requires { (length b.now ≡ 512)
         × (field b.now 4 2 ≤ 60)
         × (ascends? listed_before (decode_dots b.now) ≡ true) }
@@ -191,13 +185,13 @@ pub fn find_dot(b: &[u8], d: Dot) -> Found
 {
     let count = entry_count(b) as usize;
     if count == 0 {
-        return Found::Before(0);
+        return Err(0);
     }
     if d.before(entry_dot(b, 0)) {
-        return Found::Before(0);
+        return Err(0);
     }
     if entry_dot(b, count - 1).before(d) {
-        return Found::Before(count);
+        return Err(count);
     }
     search_dot(b, d)
 }

@@ -8,7 +8,6 @@ use lib.ListN.{length}
 use borrow.Author.Tests.{le-leb, lt-leb, eq-eqb, ne_eqb}
 use Rattle.numbers.specs.declared.Controller.{Controller}
 use Rattle.numbers.specs.Numbers.{controller, is_controller, same_controller}
-use Rattle.refusal.specs.declared.Verdict.TheVariants.{Accepted}
 use Rattle.refusal.specs.declared.Refusal.{Refusal}
 use Rattle.refusal.specs.declared.Refusal.TheVariants.{OutOfRange, NotPeer}
 use Rattle.refusal.specs.Refusal.{Answer, refused, refuse◌when◌else◌}
@@ -25,6 +24,7 @@ use Rattle.layout.specs.Calls.{afterwards}
 use Rattle.store.proofs.Lent.{table_part, clock_part, own_part}
 use Rattle.store.proofs.Untouched.{untouched}
 use Rattle.exchange.specs.Sent.{asked}
+use Rattle.std.specs.Prelude.{Ok}
 
 -- ---- another peer, by the parts that were lent
 
@@ -60,7 +60,7 @@ module _ (s : State) (to : ℕ) (img out : List ℕ) where
     no_peer h = leaves NotPeer (unfold ask is_controller refuse◌when◌else◌ in (rw (le-leb 1 to low, le-leb to 8 high, h)))
 
     pub asks : other_peer s (controller to) ≡ true
-        → afterwards img out (asked img (ask s (controller to))) ≡ record { verdict = Accepted; image = img; out = encode_ask (record { sender = s.own; addressee = controller to; clock = s.clock }); count = 0 }
+        → afterwards img out (asked img (ask s (controller to))) ≡ record { verdict = Ok tt; image = img; out = encode_ask (record { sender = s.own; addressee = controller to; clock = s.clock }); count = 0 }
     unfolding afterwards ask is_controller refuse◌when◌else◌
     asks h = rw (le-leb 1 to low, le-leb to 8 high, h)
 

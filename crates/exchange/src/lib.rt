@@ -9,7 +9,7 @@ ghost use Rattle.layout.specs.Calls.{afterwards};
 ghost use Rattle.exchange.specs.Sent.{asked};
 
 use numbers::Controller;
-use refusal::{Refusal, Verdict};
+use refusal::Refusal;
 
 // 6: "sender or asked party not another peer"
 pub fn other_peer(image: &[u8], m: Controller) -> bool
@@ -17,27 +17,27 @@ pub fn other_peer(image: &[u8], m: Controller) -> bool
     ensures { result ≡ other_peer (decode image.now) m }
 {
     let own = head::own_of(&image[0..512]);
-    if m.0 == own.0 {
+    if m == own {
         return false;
     }
     head::peers(&image[8..16], own, m)
 }
 
 // "Ask: a message with the own clock, to a peer."
-pub fn ask_at(image: &[u8], to: u8, out: &mut [u8]) -> Verdict
+pub fn ask_at(image: &[u8], to: u8, out: &mut [u8]) -> Result<(), Refusal>
     requires { (length image.now ≡ image_length) × (good_image image.now ≡ true) × (length out.old ≡ 512) }
     ensures { (result ≡ (afterwards image.now out.old (asked image.now (ask (decode image.now) (controller to)))).verdict)
         × (out.new ≡ (afterwards image.now out.old (asked image.now (ask (decode image.now) (controller to)))).out) }
 {
     if to < 1 {
-        return Verdict::Refused(Refusal::OutOfRange);
+        return Err(Refusal::OutOfRange);
     }
     if 8 < to {
-        return Verdict::Refused(Refusal::OutOfRange);
+        return Err(Refusal::OutOfRange);
     }
     let peer = Controller(to);
     if !other_peer(image, peer) {
-        return Verdict::Refused(Refusal::NotPeer);
+        return Err(Refusal::NotPeer);
     }
     greeting::write_greeting(
         out,
@@ -47,5 +47,5 @@ pub fn ask_at(image: &[u8], to: u8, out: &mut [u8]) -> Verdict
         0,
         &image[16..112],
     );
-    Verdict::Accepted
+    Ok(())
 }

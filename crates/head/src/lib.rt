@@ -59,7 +59,7 @@ pub fn peers(table: &[u8], n: Controller, m: Controller) -> bool
     requires { (length table.now ≡ 8) × Crew n × Crew m }
     ensures { result ≡ (same_controller n m || share_job table.now n m) }
 {
-    if n.0 == m.0 {
+    if n == m {
         return true;
     }
     shares_job(table, n, m)

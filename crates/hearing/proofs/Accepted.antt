@@ -6,7 +6,6 @@ use mathlib.Core.List.{List}
 use Rattle.numbers.specs.Words.{all?, some?, map}
 use Rattle.numbers.specs.Numbers.{same_controller}
 use Rattle.numbers.proofs.Tests.{and_left, and_right, or_false}
-use Rattle.refusal.specs.declared.Verdict.TheVariants.{Accepted, Refused}
 use Rattle.refusal.specs.declared.Refusal.{Refusal}
 use Rattle.refusal.specs.declared.Refusal.TheVariants.{WrongCheck, IllFormed, OutOfRange, NotPeer, HistoryLost, DotClash}
 use Rattle.refusal.specs.Refusal.{Answer, refused, accepted, ◌>>=◌, verdict_of}
@@ -19,6 +18,7 @@ use Rattle.laws.proofs.Answers.{passes, passes_not, then, by_refusal, by_none, a
 use Rattle.layout.specs.Messages.{checks_right, decode_reply, laid_out_reply}
 use Rattle.layout.specs.Calls.{with_message}
 use Rattle.hearing.specs.Heard.{peers_judged, reply_judged}
+use Rattle.std.specs.Prelude.{Ok, Err}
 
 -- what rows 3 to 10 leave of a reply
 pub record ReplyFacts (message : List ℕ) (s : State) : Type 0 where
@@ -52,7 +52,7 @@ module _ (message : List ℕ) (s : State) where
   abbrev clashing : Bool
   clashing = some? (λ p. some? (clashes s p.key) p.object.versions) q.points
 
-  pub judged_facts : verdict_of (reply_judged message s true) ≡ Accepted → ReplyFacts message s
+  pub judged_facts : verdict_of (reply_judged message s true) ≡ Ok tt → ReplyFacts message s
   unfolding reply_judged with_message peers_judged
   judged_facts e =
       let a = (accepted_with (reply_judged message s true) e).1 in
@@ -86,10 +86,10 @@ module _ (message : List ℕ) (s : State) where
     unfolding reply_judged with_message peers_judged repair
     any_state = message_rows (checks_right message) (laid_out_reply message) (reply_formed s.table q) jobs_held to_us lost clashing result g
 
-    pub judged_refused : (r : Refusal) → verdict_of (reply_judged message s true) ≡ Refused r → with_message message (laid_out_reply message) (repair s (decode_reply message) >>= g) ≡ refused r
+    pub judged_refused : (r : Refusal) → verdict_of (reply_judged message s true) ≡ Err r → with_message message (laid_out_reply message) (repair s (decode_reply message) >>= g) ≡ refused r
     judged_refused r e = any_state ∙ by_refusal (result >>= g) (reply_judged message s true) r e
 
-    pub judged_accepted : verdict_of (reply_judged message s true) ≡ Accepted
+    pub judged_accepted : verdict_of (reply_judged message s true) ≡ Ok tt
         → with_message message (laid_out_reply message) (repair s (decode_reply message) >>= g)
         ≡ ((settle s (with_row s.clock (decode_reply message).sender (row (decode_reply message).clock (decode_reply message).sender)) (map (mended s (decode_reply message)) (decode_reply message).points)
         >>= λ after. accepted (tidied after (decode_reply message))) >>= g)

@@ -15,7 +15,7 @@ ghost use Rattle.arriving.specs.Sent.{points_in, Few};
 ghost use Rattle.hearing.specs.Heard.{AllLaid, reply_in, peers_judged, reply_judged};
 
 use numbers::Controller;
-use refusal::{Refusal, Verdict};
+use refusal::Refusal;
 
 // 5: "a job (argument's or message's) not held here or not by the sender", of the point block b
 fn job_held(image: &[u8], sender: Controller, b: &[u8]) -> bool
@@ -85,45 +85,45 @@ fn points_clash(image: &[u8], count: usize, points: &[u8]) -> bool
 }
 
 // The first of rows 5, 6, 9 and 10 that applies to a well-formed reply.
-pub fn judge_points(image: &[u8], head: &[u8], points: &[u8]) -> Verdict
+pub fn judge_points(image: &[u8], head: &[u8], points: &[u8]) -> Result<(), Refusal>
     requires { (length image.now ≡ image_length) × (good_image image.now ≡ true) × (length head.now ≡ 512) × Few points.now × AllLaid points.now × Crew (decode_ask head.now).sender }
     ensures { result ≡ verdict_of (peers_judged (decode image.now) (reply_in head.now points.now) true) }
 {
     let sender = greeting::sender_of(head);
     if !jobs_held(image, sender, points) {
-        return Verdict::Refused(Refusal::OutOfRange);
+        return Err(Refusal::OutOfRange);
     }
     if !exchange::other_peer(image, sender) {
-        return Verdict::Refused(Refusal::NotPeer);
+        return Err(Refusal::NotPeer);
     }
     if !replying::is_for_us(image, head) {
-        return Verdict::Refused(Refusal::NotPeer);
+        return Err(Refusal::NotPeer);
     }
     if points_ahead(image, points) {
-        return Verdict::Refused(Refusal::HistoryLost);
+        return Err(Refusal::HistoryLost);
     }
     if replying::ahead_of_us(image, &head[8..104]) {
-        return Verdict::Refused(Refusal::HistoryLost);
+        return Err(Refusal::HistoryLost);
     }
     if points_clash(image, image::stored_count(image), points) {
-        return Verdict::Refused(Refusal::DotClash);
+        return Err(Refusal::DotClash);
     }
-    Verdict::Accepted
+    Ok(())
 }
 
 // The first refusal that applies to a reply, of those that are judged before it is taken in.
-pub fn judge_reply(image: &[u8], reply: &[u8]) -> Verdict
+pub fn judge_reply(image: &[u8], reply: &[u8]) -> Result<(), Refusal>
     requires { (length image.now ≡ image_length) × (good_image image.now ≡ true) × (whole_reply reply.now ≡ true) }
     ensures { result ≡ verdict_of (reply_judged reply.now (decode image.now) true) }
 {
     if !reply_form::reply_sealed(reply) {
-        return Verdict::Refused(Refusal::WrongCheck);
+        return Err(Refusal::WrongCheck);
     }
     if !reply_form::reply_laid_out(reply) {
-        return Verdict::Refused(Refusal::IllFormed);
+        return Err(Refusal::IllFormed);
     }
     if !reply_form::reply_formed(reply, &image[8..16]) {
-        return Verdict::Refused(Refusal::IllFormed);
+        return Err(Refusal::IllFormed);
     }
     judge_points(image, &reply[0..512], &reply[512..])
 }

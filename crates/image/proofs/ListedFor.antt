@@ -23,8 +23,6 @@ use Rattle.block.proofs.Placed.{all_then, all_others}
 use Rattle.meaning.specs.State.{Listed, listed_before}
 use Rattle.layout.specs.PointBlock.{form_1, decode_stored, decode_point}
 use Rattle.layout.specs.Image.{decode_dots}
-use Rattle.dots.specs.declared.Found.{Found}
-use Rattle.dots.specs.declared.Found.TheVariants.{At, Before}
 use Rattle.dots.specs.Entries.{entry, no_entry, FoundIn}
 use Rattle.dots.proofs.Laid.{entries_are, entries_length}
 use Rattle.dots.proofs.Search.{all_pairs}
@@ -32,6 +30,7 @@ use Rattle.record.proofs.Reading.{version_at}
 use Rattle.block.proofs.Runs.{block_part}
 use Rattle.apart.proofs.Versions.{versions_are}
 use Rattle.image.specs.Apart.{dot_listed_for, listed_for, point_at}
+use Rattle.std.specs.Prelude.{ℕ, Result, Ok, Err}
 
 -- an entry of the dot is for the point
 abbrev for_point : Dot → Key → Listed → Bool
@@ -39,7 +38,7 @@ for_point d k l = not (same_dot l.dot d) || same_key l.key k
 
 module _ (b : List ℕ) (few : field b 4 2 ≤ 60) (d : Dot) (k : Key) where
   -- no entry of the dot: those before the place come before it, the others after it
-  nowhere : (i : ℕ) → FoundIn (decode_dots b) d (Before i) → true ≡ dot_listed_for (decode_dots b) d k
+  nowhere : (i : ℕ) → FoundIn (decode_dots b) d (Err i) → true ≡ dot_listed_for (decode_dots b) d k
   nowhere i h =
       sym (all_then (λ l. not (same_dot d l.dot)) (for_point d k)
       (λ l t. or_inl (not (same_dot l.dot d)) (same_key l.key k) (ap not (turned l (not-true (same_dot d l.dot) t)))) (decode_dots b)
@@ -48,10 +47,10 @@ module _ (b : List ℕ) (few : field b 4 2 ≤ 60) (d : Dot) (k : Key) where
       turned : (l : Listed) → same_dot d l.dot ≡ false → same_dot l.dot d ≡ false
       turned l t = by_test (same_dot l.dot d) (λ u. never (subst (λ (x : Dot). same_dot d x ≡ true) (sym (same_dots l.dot d u)) (dot_itself d)) t) (λ u. u)
 
-  pub found_none : (f : Found) (i : ℕ) → f ≡ Before i → FoundIn (decode_dots b) d f → true ≡ dot_listed_for (decode_dots b) d k
+  pub found_none : (f : Result ℕ ℕ) (i : ℕ) → f ≡ Err i → FoundIn (decode_dots b) d f → true ≡ dot_listed_for (decode_dots b) d k
   found_none f i q h = nowhere i (subst (FoundIn (decode_dots b) d) q h)
 
-  pub found_within : (f : Found) (i : ℕ) → f ≡ At i → FoundIn (decode_dots b) d f → i < 60
+  pub found_within : (f : Result ℕ ℕ) (i : ℕ) → f ≡ Ok i → FoundIn (decode_dots b) d f → i < 60
   found_within f i q h = let g = subst (FoundIn (decode_dots b) d) q h in omega (arith, g.0, entries_length b few)
 
   -- the entry at i has the dot, and none else
@@ -78,7 +77,7 @@ module _ (b : List ℕ) (few : field b 4 2 ≤ 60) (d : Dot) (k : Key) where
         ⊎_elim (λ u. never (ap (λ (x : Dot). same_dot x d) e ∙ dot_itself d) (not-true (same_dot (entry b i).dot d) u)) (λ u. u)
         (or_cases (not (same_dot (entry b i).dot d)) (same_key (entry b i).key k) (all_in (for_point d k) (upto (field b 4 2) (entry b)) t (upto_in (field b 4 2) (entry b) i l)))
 
-  pub found_there : (f : Found) (i : ℕ) (x : Key) (r : Bool) → ascends? listed_before (decode_dots b) ≡ true → f ≡ At i → FoundIn (decode_dots b) d f
+  pub found_there : (f : Result ℕ ℕ) (i : ℕ) (x : Key) (r : Bool) → ascends? listed_before (decode_dots b) ≡ true → f ≡ Ok i → FoundIn (decode_dots b) d f
       → x ≡ (entry b i).key → r ≡ same_key x k → r ≡ dot_listed_for (decode_dots b) d k
   found_there f i x r up q h p e =
       let g = subst (FoundIn (decode_dots b) d) q h in

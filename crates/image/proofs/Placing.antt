@@ -16,8 +16,8 @@ use Rattle.block.proofs.Placed.{place_between, place_instead, keep_between, keep
 use Rattle.meaning.specs.Object.{no_object}
 use Rattle.meaning.specs.State.{Stored, stored_before, look_up}
 use Rattle.meaning.specs.Settle.{without}
-use Rattle.dots.specs.declared.Found.TheVariants.{At, Before}
 use Rattle.image.specs.Places.{no_point, PointIn}
+use Rattle.std.specs.Prelude.{Ok, Err}
 
 -- a record of another point
 abbrev other : Key → Stored → Bool
@@ -46,26 +46,26 @@ look_at k (p ∷ ps) (suc i) l t e =
 
 -- ---- a point that is not stored
 
-pub look_up_before : (k : Key) (ps : List Stored) (i : ℕ) → PointIn ps k (Before i) → look_up k ps ≡ no_object
+pub look_up_before : (k : Key) (ps : List Stored) (i : ℕ) → PointIn ps k (Err i) → look_up k ps ≡ no_object
 look_up_before k ps i h = look_none k ps (all_others (λ p. p.key) key_before key_order same_key same_keys key_itself k ps i h.1 h.2)
 
-pub place_before : (p : Stored) (ps : List Stored) (i : ℕ) → PointIn ps p.key (Before i) → place stored_before p ps ≡ take i ps ++ (p ∷ drop i ps)
+pub place_before : (p : Stored) (ps : List Stored) (i : ℕ) → PointIn ps p.key (Err i) → place stored_before p ps ≡ take i ps ++ (p ∷ drop i ps)
 place_before p ps i h = place_between (λ q. q.key) key_before key_order p ps i h.1 h.2
 
-pub without_before : (k : Key) (ps : List Stored) (i : ℕ) → PointIn ps k (Before i) → without k ps ≡ ps
+pub without_before : (k : Key) (ps : List Stored) (i : ℕ) → PointIn ps k (Err i) → without k ps ≡ ps
 unfolding without
 without_before k ps i h = keep_between (λ p. p.key) key_before key_order same_key same_keys key_itself k ps i h.1 h.2
 
 -- ---- a point that is stored
 
-pub look_up_at : (k : Key) (ps : List Stored) (i : ℕ) → ascends? stored_before ps ≡ true → PointIn ps k (At i) → look_up k ps ≡ (get_or ps i no_point).object
+pub look_up_at : (k : Key) (ps : List Stored) (i : ℕ) → ascends? stored_before ps ≡ true → PointIn ps k (Ok i) → look_up k ps ≡ (get_or ps i no_point).object
 look_up_at k ps i up h =
     look_at k ps i h.0 (others_before (λ p. p.key) key_before key_order same_key same_keys key_itself k ps no_point i up h.0 h.1) h.1
 
-pub place_at : (p : Stored) (ps : List Stored) (i : ℕ) → ascends? stored_before ps ≡ true → PointIn ps p.key (At i)
+pub place_at : (p : Stored) (ps : List Stored) (i : ℕ) → ascends? stored_before ps ≡ true → PointIn ps p.key (Ok i)
     → place stored_before p ps ≡ take i ps ++ (p ∷ drop 1 (drop i ps))
 place_at p ps i up h = place_instead (λ q. q.key) key_before key_order p ps no_point i up h.0 h.1
 
-pub without_at : (k : Key) (ps : List Stored) (i : ℕ) → ascends? stored_before ps ≡ true → PointIn ps k (At i) → without k ps ≡ take i ps ++ drop 1 (drop i ps)
+pub without_at : (k : Key) (ps : List Stored) (i : ℕ) → ascends? stored_before ps ≡ true → PointIn ps k (Ok i) → without k ps ≡ take i ps ++ drop 1 (drop i ps)
 unfolding without
 without_at k ps i up h = keep_but (λ p. p.key) key_before key_order same_key same_keys key_itself k ps no_point i up h.0 h.1

@@ -14,7 +14,6 @@ ghost use Rattle.image.specs.Parts.{stored_count, stored_laid_out, Few, Ascendin
 ghost use Rattle.image.specs.Places.{PointIn};
 ghost use Rattle.image.specs.Apart.{apart_from_earlier, point_at, dot_listed_for, listed_for, all_apart};
 
-use dots::Found;
 use numbers::{Controller, Dot, Key};
 
 // The number of stored points: "then points .., then blocks of zeros", so up to the first block of kind 0.
@@ -67,7 +66,7 @@ pub fn points_ascend(image: &[u8], count: usize) -> bool
 }
 
 // Where the point is stored, by halves, or the place before which it would stand.
-pub fn find_point(image: &[u8], count: usize, k: Key) -> Found
+pub fn find_point(image: &[u8], count: usize, k: Key) -> Result<usize, usize>
     requires { (length image.now ≡ image_length)
         × (count ≤ 64)
         × (ascends? stored_before (upto count (point_at image.now)) ≡ true) }
@@ -83,12 +82,12 @@ pub fn find_point(image: &[u8], count: usize, k: Key) -> Found
             low = mid + 1;
         } else {
             if !k.before(there) {
-                return Found::At(mid);
+                return Ok(mid);
             }
             high = mid;
         }
     }
-    Found::Before(low)
+    Err(low)
 }
 
 // Each stored point passes the clauses of a good state that speak of one record.
@@ -142,11 +141,11 @@ pub fn dot_listed_for(list: &[u8], d: Dot, k: Key) -> bool
     ensures { result ≡ dot_listed_for (decode_dots list.now) d k }
 {
     match dots::find_dot(list, d) {
-        Found::At(i) => {
+        Ok(i) => {
             let there = dots::entry_key(list, i);
             there.same(k)
         }
-        Found::Before(_) => true,
+        Err(_) => true,
     }
 }
 

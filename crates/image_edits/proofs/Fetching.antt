@@ -20,8 +20,6 @@ use Rattle.layout.specs.PointBlock.{form_1, unsent, encode_point, encode_stored}
 use Rattle.layout.specs.Image.{image_length, decode}
 use Rattle.layout.proofs.ImageBack.{StoredSized, stored_length, Sized}
 use Rattle.layout.proofs.PointBack.{point_block_length}
-use Rattle.dots.specs.declared.Found.{Found}
-use Rattle.dots.specs.declared.Found.TheVariants.{At, Before}
 use Rattle.record_edits.specs.Written.{Written, lay_point, point_block, relabelled}
 use Rattle.record_edits.proofs.Edits.{says_so, stored_says}
 use Rattle.image.specs.Parts.{stored_count}
@@ -31,6 +29,7 @@ use Rattle.image_edits.specs.Edits.{Canonical}
 use Rattle.image.proofs.Counted.{points_are}
 use Rattle.image_edits.proofs.Blocks.{image_decoded, canonical_blocks, no_context_small}
 use Rattle.image.proofs.Placing.{look_up_before, look_up_at}
+use Rattle.std.specs.Prelude.{ℕ, Result, Ok, Err}
 
 module _ (img : List ℕ) (small : Bytes img) (size : length img ≡ image_length) (canonical : Canonical img) (n : ℕ) (count : n ≡ length (decode img).points) where
   abbrev ps : List Stored
@@ -46,7 +45,7 @@ module _ (img : List ℕ) (small : Bytes img) (size : length img ≡ image_lengt
   pub search_few : n ≤ 64
   search_few = omega (arith, (image_decoded img small size).few)
 
-  module _ (up : ascends? stored_before (decode img).points ≡ true) (k : Key) (kind : ℕ) (sender : Controller) (f : Found) (found : PointIn (upto n (point_at img)) k f) where
+  module _ (up : ascends? stored_before (decode img).points ≡ true) (k : Key) (kind : ℕ) (sender : Controller) (f : Result ℕ ℕ) (found : PointIn (upto n (point_at img)) k f) where
     in_points : PointIn (decode img).points k f
     in_points = subst (λ (qs : List Stored). PointIn qs k f) points_listed found
 
@@ -54,8 +53,8 @@ module _ (img : List ℕ) (small : Bytes img) (size : length img ≡ image_lengt
     wanted = record { kind = kind; position = 0; point = record { sender = sender; key = k; object = look_up k ps } }
 
     -- there is a record
-    module _ (i : ℕ) (q : f ≡ At i) where
-      there : PointIn (decode img).points k (At i)
+    module _ (i : ℕ) (q : f ≡ Ok i) where
+      there : PointIn (decode img).points k (Ok i)
       there = subst (PointIn ps k) q in_points
 
       pub found_inside : i < length (decode img).points
@@ -90,7 +89,7 @@ module _ (img : List ℕ) (small : Bytes img) (size : length img ≡ image_lengt
         )
 
     -- there is none
-    pub fetched_none : (i : ℕ) → f ≡ Before i → (y : List ℕ) → kind < 256 → sender.0 < 256 → k.job < 256 → k.point.0 < 256 ^ 2
+    pub fetched_none : (i : ℕ) → f ≡ Err i → (y : List ℕ) → kind < 256 → sender.0 < 256 → k.job < 256 → k.point.0 < 256 ^ 2
         → y ≡ encode_point form_1 kind 0 (record { sender = sender; key = k; object = no_object })
         → (point_block y ≡ record { kind = kind; position = 0; point = record { sender = sender; key = k; object = look_up k (decode img).points } }) × Laid lay_point point_block y
     fetched_none i q y hk hs hj hp e =

@@ -13,7 +13,6 @@ ghost use Rattle.head.specs.HeadEdits.{put_row, put_mark};
 ghost use Rattle.record_edits.specs.Written.{lay_point, point_block};
 ghost use Rattle.image_edits.specs.Edits.{Canonical, with_head, with_points, list_of, with_list};
 
-use dots::Found;
 use numbers::{Controller, Dot, Key};
 use row::Row;
 
@@ -25,12 +24,12 @@ pub fn fetch(image: &[u8], count: usize, k: Key, kind: u8, sender: Controller, o
     ensures { (point_block out.new ≡ record { kind = kind; position = 0; point = record { sender = sender; key = k; object = look_up k (decode image.now).points } }) × Laid lay_point point_block out.new }
 {
     match image::find_point(image, count, k) {
-        Found::At(i) => {
+        Ok(i) => {
             let at = 512 * (3 + i);
             block::copy_in(out, 0, &image[at..at + 512]);
             record_edits::relabel(out, kind, 0, sender);
         }
-        Found::Before(_) => record_edits::write_empty(out, kind, 0, sender, k),
+        Err(_) => record_edits::write_empty(out, kind, 0, sender, k),
     }
 }
 

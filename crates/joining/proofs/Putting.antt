@@ -20,7 +20,6 @@ use Rattle.meaning.specs.State.{Stored, stored_before, State, look_up, local}
 use Rattle.meaning.specs.Settle.{most_points, stripped, put}
 use Rattle.laws.proofs.ContextLaws.{Within, same_counter, no_entry, fill_raises}
 use Rattle.layout.specs.Image.{decode}
-use Rattle.dots.specs.declared.Found.TheVariants.{At, Before}
 use Rattle.image.specs.Places.{no_point, PointIn}
 use Rattle.image.proofs.Placing.{look_up_at}
 use Rattle.image_edits.specs.Edits.{Canonical, with_points}
@@ -31,6 +30,7 @@ use Rattle.merging.specs.Merging.{theirs, none_here}
 use Rattle.weighing.specs.Weighed.{key_in, result_of}
 use Rattle.joining.specs.Joined.{merged_with, empty_record, Mergeable}
 use Rattle.weighing.proofs.Judging.{local_versions}
+use Rattle.std.specs.Prelude.{Ok, Err}
 
 -- ---- contexts that are raised to one above them
 
@@ -47,7 +47,7 @@ none_above here e = above no_context (map counter here) (λ n r. omega (arith, n
 -- ---- the record that was found
 
 module _ (s : State) (m here there : List ℕ) (full : map counter here ≡ (local s (key_in m)).context) (i : ℕ) (up : ascends? stored_before s.points ≡ true) where
-  module _ (at : PointIn s.points (key_in m) (At i)) where
+  module _ (at : PointIn s.points (key_in m) (Ok i)) where
     abbrev p : Stored
     p = get_or s.points i no_point
 
@@ -73,7 +73,7 @@ module _ (s : State) (m here there : List ℕ) (full : map counter here ≡ (loc
 
   -- ---- none was
 
-  module _ (at : PointIn s.points (key_in m) (Before i)) where
+  module _ (at : PointIn s.points (key_in m) (Err i)) where
     nothing_stored : (local s (key_in m)).versions ≡ []
     nothing_stored = local_versions s (key_in m) ∙ ap (λ (x : Object). x.versions) (look_up_none (key_in m) s.points (record_none (key_in m) s.points i at))
 

@@ -22,7 +22,6 @@ ghost use Rattle.merging.specs.Merging.{ours, theirs};
 ghost use Rattle.weighing.specs.Weighed.{key_in, result_of};
 ghost use Rattle.joining.specs.Joined.{Mergeable, merged_with, empty_record, with_clock};
 
-use dots::Found;
 use numbers::Controller;
 
 // ---- making it
@@ -108,8 +107,8 @@ pub fn put_merged(
     ensures { (decode image.new ≡ with_points (decode image.old) (put (decode_clock rows.now) (decode image.old).points (result_of (decode image.old) m.now there.now))) × Canonical image.new }
 {
     match image::find_point(image, count, record::key_of(m)) {
-        Found::At(i) => merge_stored(image, count, i, m, here, there, rows),
-        Found::Before(i) => {
+        Ok(i) => merge_stored(image, count, i, m, here, there, rows),
+        Err(i) => {
             if !merging::goes_alone(m, here, there, rows) {
                 merge_new(image, count, i, m, here, there, rows);
             }

@@ -8,11 +8,9 @@ use borrow.Author.Tests.{ltb-false, not-false}
 use Rattle.numbers.specs.Words.{some?}
 use Rattle.numbers.proofs.Tests.{by_test, never}
 use Rattle.numbers.proofs.Lists.{in_some}
-use Rattle.refusal.specs.declared.Verdict.{Verdict}
-use Rattle.refusal.specs.declared.Verdict.TheVariants.{Accepted, Refused}
 use Rattle.refusal.specs.declared.Refusal.{Refusal}
 use Rattle.refusal.specs.declared.Refusal.TheVariants.{WrongCheck, IllFormed, OutOfRange, NotPeer, HistoryLost, DotClash, RowTooFar, TooManyVersions, TooManyPoints}
-use Rattle.refusal.specs.Refusal.{Answer, refused, accepted, refuse◌when◌else◌, ◌>>=◌, verdict_of}
+use Rattle.refusal.specs.Refusal.{Answer, refused, accepted, refuse◌when◌else◌, ◌>>=◌, verdict_of, Verdict}
 use Rattle.row.specs.Row.{fits}
 use Rattle.meaning.specs.Clock.{Clock, every_row}
 use Rattle.meaning.specs.State.{Stored, State}
@@ -20,6 +18,7 @@ use Rattle.meaning.specs.Message.{most_versions}
 use Rattle.meaning.specs.Settle.{most_points, settled, settle}
 use Rattle.laws.proofs.Facts.{row_at}
 use Rattle.laws.proofs.Settling.{Limits}
+use Rattle.std.specs.Prelude.{Ok, Err}
 
 module _ {A : Type 0} where
   abbrev is_accepted : Answer A → Type 0
@@ -51,28 +50,28 @@ module _ {A B : Type 0} where
 unfoldable pub then : {A : Type 0} → Answer Bool → Answer A → Answer A
 then a x = a >>= λ y. x
 
-pub by_refusal : {A : Type 0} (x : Answer A) (a : Answer Bool) (r : Refusal) → verdict_of a ≡ Refused r → then a x ≡ refused r
+pub by_refusal : {A : Type 0} (x : Answer A) (a : Answer Bool) (r : Refusal) → verdict_of a ≡ Err r → then a x ≡ refused r
 unfolding then
 by_refusal x (refused q) r e = ap refused (ap which e)
   where
     which : Verdict → Refusal
-    which Accepted = q
-    which (Refused p) = p
-by_refusal x (accepted y) r e = absurd (never {b = is_refused Accepted} (ap is_refused e) refl)
+    which (Ok _) = q
+    which (Err p) = p
+by_refusal x (accepted y) r e = absurd (never {b = is_refused (Ok tt)} (ap is_refused e) refl)
   where
     is_refused : Verdict → Bool
-    is_refused Accepted = false
-    is_refused (Refused p) = true
+    is_refused (Ok _) = false
+    is_refused (Err p) = true
 
-pub accepted_with : (a : Answer Bool) → verdict_of a ≡ Accepted → (y : Bool) × (a ≡ accepted y)
+pub accepted_with : (a : Answer Bool) → verdict_of a ≡ Ok tt → (y : Bool) × (a ≡ accepted y)
 accepted_with (accepted y) e = (y, refl)
-accepted_with (refused q) e = absurd (never {b = is_accepted (Refused q)} (ap is_accepted e) refl)
+accepted_with (refused q) e = absurd (never {b = is_accepted (Err q)} (ap is_accepted e) refl)
   where
     is_accepted : Verdict → Bool
-    is_accepted Accepted = true
-    is_accepted (Refused p) = false
+    is_accepted (Ok _) = true
+    is_accepted (Err p) = false
 
-pub by_none : {A : Type 0} (x : Answer A) (a : Answer Bool) → verdict_of a ≡ Accepted → then a x ≡ x
+pub by_none : {A : Type 0} (x : Answer A) (a : Answer Bool) → verdict_of a ≡ Ok tt → then a x ≡ x
 unfolding then
 by_none x a e = ap (λ (b : Answer Bool). b >>= λ y. x) (accepted_with a e).1
 

@@ -14,11 +14,9 @@ use Rattle.numbers.specs.Numbers.{controller, counter}
 use Rattle.numbers.specs.Key.{key}
 use Rattle.numbers.proofs.Tests.{and_left, and_right, and_both}
 use Rattle.block.proofs.Same.{same_of, of_same}
-use Rattle.refusal.specs.declared.Verdict.{Verdict}
-use Rattle.refusal.specs.declared.Verdict.TheVariants.{Accepted, Refused}
 use Rattle.refusal.specs.declared.Refusal.{Refusal}
 use Rattle.refusal.specs.declared.Refusal.TheVariants.{WrongLength, ImageNotGood, WrongCheck, IllFormed}
-use Rattle.refusal.specs.Refusal.{Answer, refused, accepted, ◌>>=◌}
+use Rattle.refusal.specs.Refusal.{Answer, refused, accepted, ◌>>=◌, Verdict}
 use Rattle.meaning.specs.CrewTable.{CrewTable, is_table}
 use Rattle.meaning.specs.Object.{value, deleted}
 use Rattle.meaning.specs.State.{State}
@@ -37,6 +35,7 @@ use Rattle.layout.specs.Calls.{Left, After, afterwards, one_block, reply_room, w
 use Rattle.layout.proofs.ImageBack.{image_size, decode_encode}
 use Rattle.layout.proofs.MessagesBack.{outgoing_length, outgoing_back, outgoing_checked, outgoing_laid_out, ask_length, ask_back, ask_checked, ask_laid_out, reply_length, reply_back, reply_checked, reply_laid_out}
 use Rattle.layout.proofs.Sizes.{good_sized, outgoing_sized, ask_sized, reply_sized}
+use Rattle.std.specs.Prelude.{Ok, Err}
 
 -- ---- good images
 
@@ -70,30 +69,30 @@ encode_good s g =
 -- ---- what an answer says of the buffers
 
 -- a refused call leaves every buffer as it was, and counts 0
-pub refused_leaves : (img out : List ℕ) (a : Answer Left) (r : Refusal) → (afterwards img out a).verdict ≡ Refused r
+pub refused_leaves : (img out : List ℕ) (a : Answer Left) (r : Refusal) → (afterwards img out a).verdict ≡ Err r
     → ((afterwards img out a).image ≡ img) × ((afterwards img out a).out ≡ out) × ((afterwards img out a).count ≡ 0)
 unfolding afterwards
 refused_leaves img out (refused q) r e = (refl, refl, refl)
 refused_leaves img out (accepted l) r e = absurd (apart e)
   where
     is_accepted : Verdict → Type 0
-    is_accepted Accepted = Unit {0}
-    is_accepted (Refused x) = ⊥
+    is_accepted (Ok _) = Unit {0}
+    is_accepted (Err x) = ⊥
 
-    apart : Accepted ≡ Refused r → ⊥
+    apart : Ok (tt {0}) ≡ Err r → ⊥
     apart p = subst is_accepted p tt
 
 -- an accepted one is what its step left
-pub accepted_leaves : (img out : List ℕ) (a : Answer Left) → (afterwards img out a).verdict ≡ Accepted
+pub accepted_leaves : (img out : List ℕ) (a : Answer Left) → (afterwards img out a).verdict ≡ Ok tt
     → (l : Left) × (a ≡ accepted l) × ((afterwards img out a).image ≡ l.image) × ((afterwards img out a).out ≡ l.out)
 unfolding afterwards
 accepted_leaves img out (refused r) e = absurd (apart e)
   where
     is_refused : Verdict → Type 0
-    is_refused Accepted = ⊥
-    is_refused (Refused x) = Unit {0}
+    is_refused (Ok _) = ⊥
+    is_refused (Err x) = Unit {0}
 
-    apart : Refused r ≡ Accepted → ⊥
+    apart : Err r ≡ Ok (tt {0}) → ⊥
     apart p = subst is_refused p tt
 accepted_leaves img out (accepted l) e = (l, refl, refl, refl)
 
@@ -113,7 +112,7 @@ message_passed message laid_out rest e = (passes_not IllFormed laid_out rest (pa
 -- ---- every accepted call leaves a good image
 
 abbrev pub LeavesGood : After → Type 0
-LeavesGood a = a.verdict ≡ Accepted → good_image a.image ≡ true
+LeavesGood a = a.verdict ≡ Ok tt → good_image a.image ≡ true
 
 -- a step that leaves the encoding of a good state
 leaves : (img out : List ℕ) (a : Answer Left) → ((l : Left) → a ≡ accepted l → good_image l.image ≡ true) → LeavesGood (afterwards img out a)
@@ -282,7 +281,7 @@ reply_fit t r f few =
       formed = subst (λ (x : Reply). reply_formed t x ≡ true) (sym (reply_back r S)) f;
     }
 
-pub write_writes_fit : (img : List ℕ) (job point : ℕ) (v c out : List ℕ) → Bytes v → (write_call img job point v c out).verdict ≡ Accepted
+pub write_writes_fit : (img : List ℕ) (job point : ℕ) (v c out : List ℕ) → Bytes v → (write_call img job point v c out).verdict ≡ Ok tt
     → FitOutgoing (decode img).table (write_call img job point v c out).out
 unfolding write_call
 write_writes_fit img job point v c out bytes e =
@@ -294,7 +293,7 @@ write_writes_fit img job point v c out bytes e =
     (outgoing_fit (decode img).table d.0.message
     (sends_outgoing (decode img) (key job point) (value v) (map counter c) d.0 G (write_accepted (decode img) (key job point) v (map counter c) d.0 G bytes d.1)))
 
-pub delete_writes_fit : (img : List ℕ) (job point : ℕ) (c out : List ℕ) → (delete_call img job point c out).verdict ≡ Accepted
+pub delete_writes_fit : (img : List ℕ) (job point : ℕ) (c out : List ℕ) → (delete_call img job point c out).verdict ≡ Ok tt
     → FitOutgoing (decode img).table (delete_call img job point c out).out
 unfolding delete_call
 delete_writes_fit img job point c out e =
@@ -306,7 +305,7 @@ delete_writes_fit img job point c out e =
     (outgoing_fit (decode img).table d.0.message
     (sends_outgoing (decode img) (key job point) deleted (map counter c) d.0 G (delete_accepted (decode img) (key job point) (map counter c) d.0 G d.1)))
 
-pub ask_writes_fit : (img : List ℕ) (to : ℕ) (out : List ℕ) → (ask_call img to out).verdict ≡ Accepted → FitAsk (decode img).table (ask_call img to out).out
+pub ask_writes_fit : (img : List ℕ) (to : ℕ) (out : List ℕ) → (ask_call img to out).verdict ≡ Ok tt → FitAsk (decode img).table (ask_call img to out).out
 unfolding ask_call
 ask_writes_fit img to out e =
     let l = accepted_leaves img out _ e in
@@ -334,7 +333,7 @@ pub record Replying (img message out : List ℕ) : Type 0 where
   pub fit : FitReply (decode img).table written
   pub over_out : (reply_call img message out).out ≡ over written out
 
-pub reply_writes_fit : (img message out : List ℕ) → (reply_call img message out).verdict ≡ Accepted → Replying img message out
+pub reply_writes_fit : (img message out : List ℕ) → (reply_call img message out).verdict ≡ Ok tt → Replying img message out
 unfolding reply_call
 reply_writes_fit img message out e =
     let l = accepted_leaves img out _ e in

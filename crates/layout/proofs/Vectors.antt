@@ -7,7 +7,6 @@ use lib.ListN.{drop}
 use Rattle.numbers.specs.declared.Key.{Key}
 use Rattle.numbers.specs.Numbers.{controller}
 use Rattle.numbers.specs.Key.{key}
-use Rattle.refusal.specs.declared.Verdict.TheVariants.{Refused}
 use Rattle.refusal.specs.declared.Refusal.TheVariants.{WrongLength, ImageNotGood, WrongCheck, IllFormed}
 use Rattle.refusal.specs.Refusal.{Answer, accepted, ◌>>=◌}
 use Rattle.block.specs.Fields.{le, number, field, zeros, pad}
@@ -23,6 +22,7 @@ use Rattle.layout.specs.Image.{encode_marks, decode_marks, encode_head, decode_h
 use Rattle.layout.specs.Messages.{checks_right, encode_outgoing, encode_reading, decode_outgoing, encode_greeting, encode_ask, decode_ask, encode_reply, decode_reply, laid_out_outgoing, laid_out_ask, laid_out_reply}
 use Rattle.layout.specs.Calls.{After, afterwards, whole_reply, on_image, with_message, start_call, read_call, write_call, delete_call, take_in_call, ask_call, over, reply_call, repair_call, strip_pass_call}
 use Rattle.layout.specs.Listing.{digits_of, decimal, said, version_line, first_line, listing, refused_line, printed}
+use Rattle.std.specs.Prelude.{Err}
 
 -- to unfold this is to compute with every definition
 unfoldable bytes : Unit {0}
@@ -205,9 +205,9 @@ damaged = (0x05 ∷ []) ++ drop 1 first_message
 -- a short image is refused for its length, though it is not good either; one of zeros for what it is; a message first for its check and
 -- then for its form: 512 zero bytes have a right check
 refusals_in_order :
-    ((read_call (zeros 100) 0 7 (zeros 512)).verdict ≡ Refused WrongLength)
-    × ((read_call (zeros 34304) 0 7 (zeros 512)).verdict ≡ Refused ImageNotGood)
-    × ((take_in_call image_of_two damaged).verdict ≡ Refused WrongCheck)
-    × ((take_in_call image_of_two (zeros 512)).verdict ≡ Refused IllFormed)
+    ((read_call (zeros 100) 0 7 (zeros 512)).verdict ≡ Err WrongLength)
+    × ((read_call (zeros 34304) 0 7 (zeros 512)).verdict ≡ Err ImageNotGood)
+    × ((take_in_call image_of_two damaged).verdict ≡ Err WrongCheck)
+    × ((take_in_call image_of_two (zeros 512)).verdict ≡ Err IllFormed)
 unfolding bytes
 refusals_in_order = (refl, refl, refl, refl)

@@ -1,13 +1,11 @@
 -- The nine calls on lent bytes: from the buffers and numbers before to the answer, the count and every buffer afterwards. Assumes nothing.
 -- "Checks run in this order; the first that applies is returned. No lent byte changes."
-use Rattle.std.specs.Prelude.{ℕ, ◌%◌, Bool, true, ◌&&◌, not, List, [], ◌++◌, length, drop, leb, eqb}
+use Rattle.std.specs.Prelude.{ℕ, ◌%◌, Bool, true, ◌&&◌, not, List, [], ◌++◌, length, drop, leb, eqb, Ok, Err}
 use Rattle.numbers.specs.Words.{map}
 use Rattle.numbers.specs.Numbers.{controller, counter}
 use Rattle.numbers.specs.Key.{key}
-use Rattle.refusal.specs.declared.Verdict.{Verdict}
-use Rattle.refusal.specs.declared.Verdict.TheVariants.{Accepted, Refused}
 use Rattle.refusal.specs.declared.Refusal.TheVariants.{WrongLength, ImageNotGood, WrongCheck, IllFormed}
-use Rattle.refusal.specs.Refusal.{Answer, refused, accepted, refuse◌when◌else◌, ◌>>=◌}
+use Rattle.refusal.specs.Refusal.{Answer, refused, accepted, refuse◌when◌else◌, ◌>>=◌, Verdict}
 use Rattle.meaning.specs.State.{State}
 use Rattle.meaning.specs.OwnSteps.{start, read, write, delete, strip_pass}
 use Rattle.meaning.specs.Exchange.{take_in, ask, reply, repair}
@@ -29,8 +27,8 @@ pub record After : Type 0 where
 
 -- a refused call leaves all as it was, and counts 0
 unfoldable pub afterwards : List ℕ → List ℕ → Answer Left → After
-afterwards image out (refused r) = record { verdict = Refused r; image = image; out = out; count = 0 }
-afterwards image out (accepted l) = record { verdict = Accepted; image = l.image; out = l.out; count = l.count }
+afterwards image out (refused r) = record { verdict = Err r; image = image; out = out; count = 0 }
+afterwards image out (accepted l) = record { verdict = Ok tt; image = l.image; out = l.out; count = l.count }
 
 -- "Kind 4, 5 and 7 buffers are exactly 512 bytes, contexts eight counters."
 abbrev pub one_block : List ℕ → Bool

@@ -214,7 +214,7 @@ fn put_refused(out: &mut [u8], why: Refusal) -> usize
     requires { most_text ≤ length out.old }
     ensures { Put out.old 0 (refused_line why) most_text out.new result }
 {
-    let end = put_after(out, 0, b"refused ", why.number());
+    let end = put_after(out, 0, b"refused ", u32::from(why));
     put_word(out, end, b"\n")
 }
 

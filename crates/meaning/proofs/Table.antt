@@ -13,7 +13,6 @@ use Rattle.refusal.specs.declared.Refusal.TheVariants.{ContextAhead}
 use Rattle.refusal.specs.Refusal.{Answer, refused, accepted, refuse◌when◌else◌, ◌>>=◌}
 use Rattle.block.specs.Check.{sums_from, sums}
 use Rattle.row.specs.declared.Row.{Row}
-use Rattle.row.specs.declared.Added.TheVariants.{Now, TooFar}
 use Rattle.row.specs.Row.{bit, has, advance, advanced, add, unite, digits, highest, fits, sound, add_up}
 use Rattle.meaning.specs.CrewTable.{CrewTable, is_table, holds, share_job, in_some_job}
 use Rattle.meaning.specs.Clock.{row, every_row, in_clock, enter, with_row}
@@ -25,6 +24,7 @@ use Rattle.meaning.specs.Settle.{entered, without, put, newly_listed, own_listed
 use Rattle.meaning.specs.OwnSteps.{start, ours, shown, read, next_dot, written, context_ahead, put_down, write, delete, strip_pass}
 use Rattle.meaning.specs.Exchange.{both_hold, other_peer, ahead_of_us, row_ahead_of_us, clashes, take_in, ask, lacking, as_stored, reply, raised, known_to_all, tidied, mended, repair}
 use Rattle.meaning.specs.Good.{sized, rows_sound, own_row_whole, points_formed, points_ascend, listed_formed, lists_formed, lists_ascend, lists_apart, jobs_held, versions_covered, versions_in_clock, lists_in_clock, dots_apart, rows_of_peers, marks_of_peers, own_marks_known, own_entries_known, records_needed, clauses, good_state}
+use Rattle.std.specs.Prelude.{Some, None}
 
 -- to unfold this is to compute with every definition
 unfoldable pub everything : Unit {0}
@@ -129,8 +129,8 @@ still = again >>= λ s. accepted (s.points, row_1 s)
 pub record Table : Type 0 where
   pub k1 : sums (0x05 ∷ 0x01 ∷ replicate 510 0) ≡ record { s1 = 261; s2 = 759 }
   pub k2 : add (row_of 3 2) (counter 4) ≡ row_of 5 0
-  pub k3 : add_up (row_of 3 0) (counter 67) ≡ Now (row_of 3 (2 ^ 63))
-  pub k4 : add_up (row_of 3 0) (counter 68) ≡ TooFar
+  pub k3 : add_up (row_of 3 0) (counter 67) ≡ Some (row_of 3 (2 ^ 63))
+  pub k4 : add_up (row_of 3 0) (counter 68) ≡ None
   pub k5 : (two_writes >>= shows) ≡ accepted (record { versions = version 1 1 ∷ version 1 2 ∷ []; entry_1 = 2 })
   pub k6 : (two_writes >>= writes 1 >>= shows) ≡ accepted (record { versions = version 1 2 ∷ version 1 3 ∷ []; entry_1 = 3 })
   pub k7 : (two_writes >>= writes 2 >>= shows) ≡ accepted (record { versions = version 1 3 ∷ []; entry_1 = 3 })

@@ -6,7 +6,6 @@ use mathlib.Core.List.{List, []}
 use lib.ListN.{length}
 use lib.Dec.{leb}
 use borrow.Author.Tests.{eq-eqb, ne_eqb, lt-leb, le-leb}
-use Rattle.refusal.specs.declared.Verdict.TheVariants.{Accepted, Refused}
 use Rattle.refusal.specs.declared.Refusal.{Refusal}
 use Rattle.refusal.specs.Refusal.{Answer, verdict_of}
 use Rattle.meaning.specs.State.{State}
@@ -18,16 +17,17 @@ use Rattle.taking.specs.Taken.{left_by}
 use Rattle.repairing.specs.Repaired.{repaired}
 use Rattle.opening.specs.Admitted.{opened}
 use Rattle.opening.proofs.Ladder.{refused_leaves, refused_first, opened_steps}
+use Rattle.std.specs.Prelude.{Ok, Err}
 
 module _ (img message : List ℕ) where
   abbrev step : State → Answer Left
   step s = with_message message (laid_out_reply message) (left_by (repair s (decode_reply message)))
 
-  pub repair_refused : (r : Refusal) → verdict_of (opened img (whole_reply message)) ≡ Refused r → repair_call img message ≡ untouched r img []
+  pub repair_refused : (r : Refusal) → verdict_of (opened img (whole_reply message)) ≡ Err r → repair_call img message ≡ untouched r img []
   unfolding repair_call
   repair_refused r e = refused_leaves img [] (on_image (whole_reply message) img step) r (refused_first img (whole_reply message) step r e)
 
-  pub repair_goes_on : verdict_of (opened img (whole_reply message)) ≡ Accepted → repair_call img message ≡ afterwards img [] (repaired img message)
+  pub repair_goes_on : verdict_of (opened img (whole_reply message)) ≡ Ok tt → repair_call img message ≡ afterwards img [] (repaired img message)
   unfolding repair_call
   repair_goes_on e = ap (afterwards img []) (opened_steps img (whole_reply message) step e)
 

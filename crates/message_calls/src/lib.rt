@@ -3,31 +3,26 @@
 
 ghost use Rattle.std.specs.Prelude.{◌≡◌, ◌<◌, ◌&&◌, length, leb};
 ghost use Rattle.layout.specs.Calls.{one_block, reply_room, whole_reply};
-ghost use Rattle.opening.specs.CallContracts.{TakesIn, Asks, Replies, Repairs};
+ghost use Rattle.opening.specs.CallContracts.{without_count, count_in, TakesIn, Asks, Replies, Repairs};
 
-use opening::Tally;
-use refusal::Verdict;
+use refusal::Refusal;
 
 // ---- taking in
 
-pub fn take_in(image: &mut [u8], message: &[u8]) -> Verdict
+pub fn take_in(image: &mut [u8], message: &[u8]) -> Result<(), Refusal>
     ensures { TakesIn (λ v. v) image.old message.now result image.new }
 {
-    match opening::opens(image, message.len() == 512) {
-        Verdict::Refused(r) => Verdict::Refused(r),
-        Verdict::Accepted => taking::take_in_at(image, message),
-    }
+    opening::opens(image, message.len() == 512)?;
+    taking::take_in_at(image, message)
 }
 
 // ---- asking
 
-pub fn ask(image: &[u8], to: u8, out: &mut [u8]) -> Verdict
+pub fn ask(image: &[u8], to: u8, out: &mut [u8]) -> Result<(), Refusal>
     ensures { Asks (λ v. v) image.now to out.old result out.new }
 {
-    match opening::opens(image, out.len() == 512) {
-        Verdict::Refused(r) => Verdict::Refused(r),
-        Verdict::Accepted => exchange::ask_at(image, to, out),
-    }
+    opening::opens(image, out.len() == 512)?;
+    exchange::ask_at(image, to, out)
 }
 
 // ---- replying
@@ -40,28 +35,12 @@ fn reply_lengths(message: &[u8], out: &[u8]) -> bool
 }
 
 // The answer, and how many points were sent.
-pub fn reply(image: &[u8], message: &[u8], out: &mut [u8]) -> Tally
-    ensures { Replies (λ v. v) image.now message.now out.old result.verdict out.new result.count }
+pub fn reply(image: &[u8], message: &[u8], out: &mut [u8]) -> Result<u32, Refusal>
+    ensures { Replies (λ v. v) image.now message.now out.old (without_count result) out.new (count_in result) }
 {
-    match opening::opens(image, reply_lengths(message, out)) {
-        Verdict::Refused(r) => Tally {
-            verdict: Verdict::Refused(r),
-            count: 0,
-        },
-        Verdict::Accepted => match replying::judge_ask(image, message) {
-            Verdict::Refused(q) => Tally {
-                verdict: Verdict::Refused(q),
-                count: 0,
-            },
-            Verdict::Accepted => {
-                let sent = replying::write_reply(image, message, out);
-                Tally {
-                    verdict: Verdict::Accepted,
-                    count: sent,
-                }
-            }
-        },
-    }
+    opening::opens(image, reply_lengths(message, out))?;
+    replying::judge_ask(image, message)?;
+    Ok(replying::write_reply(image, message, out))
 }
 
 // ---- repairing
@@ -80,11 +59,9 @@ fn is_whole(message: &[u8]) -> bool
     length <= 61952
 }
 
-pub fn repair(image: &mut [u8], message: &[u8]) -> Verdict
+pub fn repair(image: &mut [u8], message: &[u8]) -> Result<(), Refusal>
     ensures { Repairs (λ v. v) image.old message.now result image.new }
 {
-    match opening::opens(image, is_whole(message)) {
-        Verdict::Refused(r) => Verdict::Refused(r),
-        Verdict::Accepted => reading::repair_read(image, message),
-    }
+    opening::opens(image, is_whole(message))?;
+    reading::repair_read(image, message)
 }

@@ -1,5 +1,5 @@
 -- The next dot behind the last one: what is chosen one by one of a list is the first behind the last one of that list in order. Assumes nothing.
-use Rattle.std.specs.Prelude.{if◌then◌else◌}
+use Rattle.std.specs.Prelude.{if◌then◌else◌, Option, Some, None}
 use mathlib.Core.Path.{◌≡◌, refl, sym, ap, ◌∙◌}
 use mathlib.Core.Logic.{⊎_elim}
 use mathlib.Core.Bool.{Bool, true, false}
@@ -13,25 +13,23 @@ use Rattle.numbers.proofs.Tests.{by_test, never, ◌∈◌, here, there}
 use Rattle.numbers.proofs.Orders.{Ascends, ascends_first, ascends_rest, place_all_ascends}
 use Rattle.meaning.specs.State.{Listed, listed_before, State}
 use Rattle.laws.proofs.Putting.{listed_order}
-use Rattle.noting.specs.declared.Next.{Next}
-use Rattle.noting.specs.declared.Next.TheVariants.{At, Nothing}
 use Rattle.noting.specs.Noted.{arrives_new}
 use Rattle.noting.specs.Nearest.{nearer, closer, with_new, nearest}
 
 -- ---- the choice between two, as the code makes it
 
-module _ (best : Next) (l : Listed) where
-  pub first_found : best ≡ Nothing → At l.dot l.key ≡ nearer best l
-  first_found e = sym (ap (λ (n : Next). nearer n l) e)
+module _ (best : Option (Dot × Key)) (l : Listed) where
+  pub first_found : best ≡ None → Some (l.dot, l.key) ≡ nearer best l
+  first_found e = sym (ap (λ (n : Option (Dot × Key)). nearer n l) e)
 
-  module _ (d : Dot) (k : Key) (e : best ≡ At d k) where
-    pub now_nearer : dot_before l.dot d ≡ true → At l.dot l.key ≡ nearer best l
-    now_nearer t = sym (ap (λ (n : Next). nearer n l) e ∙ ap (λ (c : Bool). if c then At l.dot l.key else At d k) t)
+  module _ (d : Dot) (k : Key) (e : best ≡ Some (d, k)) where
+    pub now_nearer : dot_before l.dot d ≡ true → Some (l.dot, l.key) ≡ nearer best l
+    now_nearer t = sym (ap (λ (n : Option (Dot × Key)). nearer n l) e ∙ ap (λ (c : Bool). if c then Some (l.dot, l.key) else Some (d, k)) t)
 
-    pub still_nearer : dot_before l.dot d ≡ false → At d k ≡ nearer best l
-    still_nearer t = sym (ap (λ (n : Next). nearer n l) e ∙ ap (λ (c : Bool). if c then At l.dot l.key else At d k) t)
+    pub still_nearer : dot_before l.dot d ≡ false → Some (d, k) ≡ nearer best l
+    still_nearer t = sym (ap (λ (n : Option (Dot × Key)). nearer n l) e ∙ ap (λ (c : Bool). if c then Some (l.dot, l.key) else Some (d, k)) t)
 
-module _ (s : State) (k : Key) (last : Dot) (best : Next) (d : Dot) where
+module _ (s : State) (k : Key) (last : Dot) (best : Option (Dot × Key)) (d : Dot) where
   abbrev it : Listed
   it = record { dot = d; key = k }
 
@@ -56,27 +54,27 @@ module _ (s : State) (k : Key) (last : Dot) (best : Next) (d : Dot) where
 abbrev pub after : Dot → Listed → Bool
 after last l = dot_before last l.dot
 
-abbrev pub first : List Listed → Next
-first [] = Nothing
-first (x ∷ xs) = At x.dot x.key
+abbrev pub first : List Listed → Option (Dot × Key)
+first [] = None
+first (x ∷ xs) = Some (x.dot, x.key)
 
 -- the nearer of two, each of which may be none
-abbrev pub join : Next → Next → Next
-join best Nothing = best
-join best (At d k) = nearer best (record { dot = d; key = k })
+abbrev pub join : Option (Dot × Key) → Option (Dot × Key) → Option (Dot × Key)
+join best None = best
+join best (Some (d, k)) = nearer best (record { dot = d; key = k })
 
-pub join_none : (n : Next) → join Nothing n ≡ n
-join_none Nothing = refl
-join_none (At d k) = refl
+pub join_none : (n : Option (Dot × Key)) → join None n ≡ n
+join_none None = refl
+join_none (Some (d, k)) = refl
 
 -- x comes before all that y comes before, where y does not come before x
 below : (x y z : Listed) → listed_before y x ≡ false → listed_before y z ≡ true → listed_before x z ≡ true
 below x y z h t =
     by_test (listed_before x y) (λ u. listed_order.through x y z u t) (λ u. listed_order.tied_left x y z (u, h) ∙ t)
 
-join_near : (best : Next) (x y : Listed) → nearer (nearer best x) y ≡ join best (nearer (At x.dot x.key) y)
-join_near Nothing x y = sym (join_none (nearer (At x.dot x.key) y))
-join_near (At d k) x y =
+join_near : (best : Option (Dot × Key)) (x y : Listed) → nearer (nearer best x) y ≡ join best (nearer (Some (x.dot, x.key)) y)
+join_near None x y = sym (join_none (nearer (Some (x.dot, x.key)) y))
+join_near (Some (d, k)) x y =
     let z : Listed = record { dot = d; key = k } in
     by_test (listed_before x z)
     (λ p. by_test (listed_before y x)
@@ -87,16 +85,16 @@ join_near (At d k) x y =
     (λ q. let r : listed_before y z ≡ false = by_test (listed_before y z) (λ t. never (below x y z q t) p) (λ t. t) in rw (p, q, p, r)))
 
 -- the choice with one more first is the choice of it with the others
-join_closer : (last : Dot) (best : Next) (x : Listed) (n : Next) → join (closer last best x) n ≡ join best (join (first (cons_if (after last x) x [])) n)
+join_closer : (last : Dot) (best : Option (Dot × Key)) (x : Listed) (n : Option (Dot × Key)) → join (closer last best x) n ≡ join best (join (first (cons_if (after last x) x [])) n)
 unfolding closer
 join_closer last best x n = by_test (after last x) (λ t. rw t (behind n)) (λ t. rw t (ap (join best) (sym (join_none n))))
   where
-    behind : (m : Next) → join (nearer best x) m ≡ join best (join (At x.dot x.key) m)
-    behind Nothing = refl
-    behind (At d k) = join_near best x (record { dot = d; key = k })
+    behind : (m : Option (Dot × Key)) → join (nearer best x) m ≡ join best (join (Some (x.dot, x.key)) m)
+    behind None = refl
+    behind (Some (d, k)) = join_near best x (record { dot = d; key = k })
 
 -- those of a list that do not come before x leave it as it is
-none_nearer : (f : Listed → Bool) (x : Listed) (zs : List Listed) → ((z : Listed) → z ∈ zs → listed_before z x ≡ false) → join (At x.dot x.key) (first (keep f zs)) ≡ At x.dot x.key
+none_nearer : (f : Listed → Bool) (x : Listed) (zs : List Listed) → ((z : Listed) → z ∈ zs → listed_before z x ≡ false) → join (Some (x.dot, x.key)) (first (keep f zs)) ≡ Some (x.dot, x.key)
 none_nearer f x [] h = refl
 none_nearer f x (z ∷ zs) h =
     by_test (f z) (λ t. rw (t, h z (here refl))) (λ t. rw t (none_nearer f x zs (λ y m. h y (there m))))
@@ -137,7 +135,7 @@ first_placed last x (y ∷ ys) up =
         (λ t. let u : after last y ≡ false = sym (listed_order.tied_right x y (record { dot = last; key = y.key }) (q, p)) ∙ t in rw (p, q, t, u) (sym (join_none (first (keep (after last) ys)))))
 
 -- what is chosen of a list is the first behind the last one of the list in order
-pub chosen : (last : Dot) (best : Next) (xs : List Listed) → nearest last best xs ≡ join best (first (keep (after last) (place_all listed_before xs [])))
+pub chosen : (last : Dot) (best : Option (Dot × Key)) (xs : List Listed) → nearest last best xs ≡ join best (first (keep (after last) (place_all listed_before xs [])))
 unfolding nearest
 chosen last best [] = refl
 chosen last best (x ∷ xs) =

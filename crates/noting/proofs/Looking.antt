@@ -1,5 +1,5 @@
 -- Which dots arrive new, as the code asks it, and the points of a message one after the other. Assumes nothing.
-use Rattle.std.specs.Prelude.{if◌then◌else◌}
+use Rattle.std.specs.Prelude.{if◌then◌else◌, Option}
 use Prim.Native.Nat.{ℕ, ◌+◌, ◌-◌, ◌*◌, ◌/◌, ◌≤◌, ◌<◌}
 use mathlib.Core.Path.{◌≡◌, refl, ap, sym, ◌∙◌, subst}
 use mathlib.Core.Bool.{Bool, true, false, ◌&&◌, not}
@@ -27,7 +27,6 @@ use Rattle.record.proofs.Reading.{version_at, versions_are}
 use Rattle.store.proofs.Lent.{clock_part}
 use Rattle.arriving.proofs.Folding.{Folded, folded_more, fold_append}
 use Rattle.block.proofs.Runs.{block_part}
-use Rattle.noting.specs.declared.Next.{Next}
 use Rattle.noting.specs.Noted.{arrives_new, new_of, newly_arrived, Crewed}
 use Rattle.noting.specs.Nearest.{closer, with_new, nearest}
 
@@ -61,13 +60,13 @@ module _ (img : List ℕ) (size : length img ≡ image_length) (k : Key) (d : Do
 
 -- ---- the versions of a point
 
-abbrev pub look_at : State → Key → Dot → Next → Version → Next
+abbrev pub look_at : State → Key → Dot → Option (Dot × Key) → Version → Option (Dot × Key)
 look_at s k last best v = with_new s k last best v.dot
 
 abbrev as_listed : Key → Version → Listed
 as_listed k v = record { dot = v.dot; key = k }
 
-looked_at : (s : State) (k : Key) (last : Dot) (best : Next) (vs : List Version)
+looked_at : (s : State) (k : Key) (last : Dot) (best : Option (Dot × Key)) (vs : List Version)
     → fold (look_at s k last) best vs ≡ fold (closer last) best (map (λ v. record { dot = v.dot; key = k }) (keep (λ v. arrives_new s k v.dot) vs))
 unfolding with_new
 looked_at s k last best [] = refl
@@ -78,7 +77,7 @@ looked_at s k last best (v ∷ vs) =
     (λ t. ap (λ (b : Bool). fold (look_at s k last) (if b then closer last best (as_listed k v) else best) vs) t ∙ looked_at s k last best vs
     ∙ sym (ap (λ (b : Bool). fold (closer last) best (map (as_listed k) (cons_if b v (keep (λ w. arrives_new s k w.dot) vs)))) t))
 
-pub point_looked : (s : State) (b : List ℕ) → field b 5 1 ≤ 8 → (last : Dot) (start r : Next) (k : Key) → k ≡ (decode_point form_1 b).key
+pub point_looked : (s : State) (b : List ℕ) → field b 5 1 ≤ 8 → (last : Dot) (start r : Option (Dot × Key)) (k : Key) → k ≡ (decode_point form_1 b).key
     → r ≡ fold (look_at s k last) start (upto (field b 5 1) (version_at b)) → r ≡ nearest last start (new_of s (decode_stored form_1 b))
 unfolding nearest decode_stored
 point_looked s b few last start r k e f =
@@ -88,16 +87,16 @@ point_looked s b few last start r k e f =
 
 -- ---- the points
 
-abbrev pub look_into : State → Dot → Next → Stored → Next
+abbrev pub look_into : State → Dot → Option (Dot × Key) → Stored → Option (Dot × Key)
 look_into s last best p = nearest last best (new_of s p)
 
-looked_into : (s : State) (last : Dot) (best : Next) (ps : List Stored) → fold (look_into s last) best ps ≡ fold (closer last) best (concat_map (new_of s) ps)
+looked_into : (s : State) (last : Dot) (best : Option (Dot × Key)) (ps : List Stored) → fold (look_into s last) best ps ≡ fold (closer last) best (concat_map (new_of s) ps)
 unfolding nearest
 looked_into s last best [] = refl
 looked_into s last best (p ∷ ps) =
     looked_into s last (fold (closer last) best (new_of s p)) ps ∙ sym (fold_append (closer last) best (new_of s p) (concat_map (new_of s) ps))
 
-pub all_looked : (s : State) (last : Dot) (best : Next) (ps : List Stored) → fold (look_into s last) best ps ≡ nearest last best (newly_arrived s ps)
+pub all_looked : (s : State) (last : Dot) (best : Option (Dot × Key)) (ps : List Stored) → fold (look_into s last) best ps ≡ nearest last best (newly_arrived s ps)
 unfolding nearest newly_arrived
 all_looked s last best ps = looked_into s last best ps
 
@@ -107,7 +106,7 @@ module _ (run : List ℕ) (small : Bytes run) where
   lent_crewed ok j l = subst (λ (b : List ℕ). crewed (decode_point form_1 b).object.versions ≡ true) (sym (block_part run j)) (ok j l)
 
   -- one point more was looked into
-  pub one_looked : (s : State) (last : Dot) (b₀ : Next) (j : ℕ) (best : Next) → Folded (look_into s last) (length run / 512) (λ i. decode_stored form_1 (block_at run i)) b₀ j best
-      → j < length run / 512 → (r : Next) → r ≡ nearest last best (new_of s (decode_stored form_1 (take (512 * j + 512 - 512 * j) (drop (512 * j) run))))
+  pub one_looked : (s : State) (last : Dot) (b₀ : Option (Dot × Key)) (j : ℕ) (best : Option (Dot × Key)) → Folded (look_into s last) (length run / 512) (λ i. decode_stored form_1 (block_at run i)) b₀ j best
+      → j < length run / 512 → (r : Option (Dot × Key)) → r ≡ nearest last best (new_of s (decode_stored form_1 (take (512 * j + 512 - 512 * j) (drop (512 * j) run))))
       → Folded (look_into s last) (length run / 512) (λ i. decode_stored form_1 (block_at run i)) b₀ (j + 1) r
   one_looked s last b₀ j best F l r e = folded_more F l r (e ∙ ap (λ (b : List ℕ). look_into s last best (decode_stored form_1 b)) (block_part run j))

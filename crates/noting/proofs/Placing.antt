@@ -15,12 +15,11 @@ use Rattle.numbers.proofs.Orders.{Order, Ascends, place_all_ascends, ascending_s
 use Rattle.numbers.proofs.Dots.{dot_itself}
 use Rattle.block.proofs.Arrays.{get_or_in}
 use Rattle.meaning.specs.State.{Listed}
-use Rattle.dots.specs.declared.Found.{Found}
-use Rattle.dots.specs.declared.Found.TheVariants.{At}
 use Rattle.dots.specs.Entries.{no_entry, FoundIn}
+use Rattle.std.specs.Prelude.{ℕ, Result, Ok}
 
 -- a dot that is none of a list's is not found there
-pub not_found : {C : Type 0} (d : Dot) (ls : List Listed) (i : ℕ) → all? (λ l. not (same_dot d l.dot)) ls ≡ true → FoundIn ls d (At i) → C
+pub not_found : {C : Type 0} (d : Dot) (ls : List Listed) (i : ℕ) → all? (λ l. not (same_dot d l.dot)) ls ≡ true → FoundIn ls d (Ok i) → C
 not_found d ls i none at =
     never (ap (same_dot d) at.1 ∙ dot_itself d)
     (not-true (same_dot d (get_or ls i no_entry).dot) (all_in (λ l. not (same_dot d l.dot)) ls none (get_or_in ls i no_entry at.0)))
@@ -52,5 +51,5 @@ pub first_last : {A : Type 0} (xs : List A) (x v : A) → v ∈ xs ++ (x ∷ [])
 first_last xs x v m = ⊎_elim there (λ h. here (Memᴰ.eq_of_singleton h)) (Memᴰ.append_cases xs m)
 
 -- what the search says of the list that the block says
-pub found_in : (us ls : List Listed) (d : Dot) → us ≡ ls → (f : Found) → FoundIn us d f → (g : Found) → f ≡ g → FoundIn ls d g
+pub found_in : (us ls : List Listed) (d : Dot) → us ≡ ls → (f : Result ℕ ℕ) → FoundIn us d f → (g : Result ℕ ℕ) → f ≡ g → FoundIn ls d g
 found_in us ls d same f at g e = subst (FoundIn ls d) e (subst (λ (l : List Listed). FoundIn l d f) same at)

@@ -38,12 +38,11 @@ use Rattle.object.proofs.Entries.{crewed_dot}
 use Rattle.image_edits.specs.Edits.{Canonical, with_list}
 use Rattle.image_edits.proofs.Lifting.{list_part_laid, list_part_says}
 use Rattle.arriving.specs.Sent.{points_in}
-use Rattle.noting.specs.declared.Next.{Next}
-use Rattle.noting.specs.declared.Next.TheVariants.{At, Nothing}
 use Rattle.noting.specs.Noted.{arrives_new, new_of, newly_arrived, fresh, noted, Crewed}
 use Rattle.noting.specs.Nearest.{nearest}
 use Rattle.noting.proofs.Choosing.{after, first, join_none, not_before, chosen}
 use Rattle.noting.proofs.Placing.{place_adds, any_order, last_first, first_last}
+use Rattle.std.specs.Prelude.{Option, Some, None}
 
 -- ---- the foreign list, as it is lent
 
@@ -86,16 +85,20 @@ earlier (z ∷ xs) x ys up v m =
     let later = earlier xs x ys (ascends_rest listed_before z (xs ++ (x ∷ ys)) up) v in
     ⊎_elim (λ e. ap (λ (w : Listed). listed_before w x) e ∙ ascends_first listed_before z (xs ++ (x ∷ ys)) up (in_right xs (x ∷ ys) (here refl))) later (Memᴰ.cases_cons m)
 
-first_none : (xs : List Listed) → first xs ≡ Nothing → xs ≡ []
+first_none : (xs : List Listed) → first xs ≡ None → xs ≡ []
 first_none [] e = refl
 first_none (x ∷ xs) e = let z : ◌≡◌ {A = ℕ} 0 1 = cc in absurd (omega arith)
 
-first_some : (xs : List Listed) (d : Dot) (k : Key) → first xs ≡ At d k → (ys : List Listed) × (xs ≡ record { dot = d; key = k } ∷ ys)
+first_some : (xs : List Listed) (d : Dot) (k : Key) → first xs ≡ Some (d, k) → (ys : List Listed) × (xs ≡ record { dot = d; key = k } ∷ ys)
 first_some [] d k e = let z : ◌≡◌ {A = ℕ} 0 1 = cc in absurd (omega arith)
 first_some (x ∷ xs) d k e =
-    let p : x.dot ≡ d = cc in
-    let q : x.key ≡ k = cc in
+    let p : x.dot ≡ d = ap (λ (o : Option (Dot × Key)). (which o).0) e in
+    let q : x.key ≡ k = ap (λ (o : Option (Dot × Key)). (which o).1) e in
     (xs, λ i. record { dot = p i; key = q i } ∷ xs)
+  where
+    which : Option (Dot × Key) → Dot × Key
+    which None = (d, k)
+    which (Some o) = o
 
 -- ---- those that arrive new
 
@@ -192,18 +195,18 @@ module _ (s : State) (G : Good s) (ps : List Stored) where
         taken : take (most_listed - length s.foreign_dots) (fresh s ps) ≡ L.done
         taken = ap (take (most_listed - length s.foreign_dots)) (sym L.parts) ∙ take_at L.done L.rest (most_listed - length s.foreign_dots) many
 
-    module _ (r : Next) (next : r ≡ nearest last Nothing (newly_arrived (decode img) ps)) where
+    module _ (r : Option (Dot × Key)) (next : r ≡ nearest last None (newly_arrived (decode img) ps)) where
       is_first : r ≡ first L.rest
       unfolding fresh
       is_first =
-          next ∙ ap (λ (x : State). nearest last Nothing (newly_arrived x ps)) L.says
-          ∙ ap (nearest last Nothing) (same_new s ps (place_all listed_before L.done s.foreign_dots))
-          ∙ chosen last Nothing (newly_arrived s ps)
+          next ∙ ap (λ (x : State). nearest last None (newly_arrived x ps)) L.says
+          ∙ ap (nearest last None) (same_new s ps (place_all listed_before L.done s.foreign_dots))
+          ∙ chosen last None (newly_arrived s ps)
           ∙ join_none (first (keep (after last) (fresh s ps)))
           ∙ ap first L.behind
 
       -- there is none left
-      pub ends : r ≡ Nothing → decode img ≡ with_list s 2 (noted s ps)
+      pub ends : r ≡ None → decode img ≡ with_list s 2 (noted s ps)
       unfolding noted
       ends e = L.says ∙ ap (λ (ls : List Listed). with_list s 2 (place_all listed_before ls s.foreign_dots)) (all ∙ sym taken)
         where
@@ -213,7 +216,7 @@ module _ (s : State) (G : Good s) (ps : List Stored) where
           taken : take (most_listed - length s.foreign_dots) (fresh s ps) ≡ fresh s ps
           taken = take_all (most_listed - length s.foreign_dots) (fresh s ps) (omega (arith, ap length all, L.counted, L.room))
 
-      module _ (d : Dot) (k : Key) (e : r ≡ At d k) where
+      module _ (d : Dot) (k : Key) (e : r ≡ Some (d, k)) where
         abbrev it : Listed
         it = record { dot = d; key = k }
 

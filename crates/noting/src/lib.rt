@@ -2,7 +2,7 @@
 // "Version dots new to the clock are listed with their point, own ones always, foreign ones in order of controller and counter while there is room."
 #![tactic(auto)]
 
-ghost use Rattle.std.specs.Prelude.{◌≡◌, true, not, ◌≤◌, ◌<◌, length};
+ghost use Rattle.std.specs.Prelude.{◌≡◌, true, not, ◌≤◌, ◌<◌, length, None};
 ghost use Rattle.numbers.specs.Words.{all?, ascends?, place};
 ghost use Rattle.numbers.specs.Numbers.{Crew};
 ghost use Rattle.numbers.specs.Dot.{same_dot};
@@ -14,19 +14,10 @@ ghost use Rattle.layout.specs.Image.{image_length, decode, good_image};
 ghost use Rattle.record.specs.Crewed.{crewed};
 ghost use Rattle.image_edits.specs.Edits.{Canonical, with_list};
 ghost use Rattle.arriving.specs.Sent.{points_in, Few};
-ghost use Rattle.noting.specs.declared.Next.TheVariants.{Nothing};
 ghost use Rattle.noting.specs.Noted.{arrives_new, new_of, newly_arrived, noted, Crewed};
 ghost use Rattle.noting.specs.Nearest.{nearer, with_new, nearest};
 
-use dots::Found;
 use numbers::{Controller, Counter, Dot, Key};
-
-// The next dot to be listed, with its point, or that there is none.
-#[derive(Clone, Copy)]
-pub enum Next {
-    At(Dot, Key),
-    Nothing,
-}
 
 // ---- which dots arrive new. The image's clock, table and points are asked, and not its lists: these grow while its other parts stay.
 
@@ -39,28 +30,28 @@ fn arrives_new(image: &[u8], count: usize, k: Key, d: Dot) -> bool
         return false;
     }
     let here = arriving::local_entry(image, count, k, d.who);
-    here.0 < d.count.0
+    here < d.count
 }
 
 // ---- the next one in order, after the last one that was listed
 
 // The nearer of two.
-fn nearer(best: Next, d: Dot, k: Key) -> Next
+fn nearer(best: Option<(Dot, Key)>, d: Dot, k: Key) -> Option<(Dot, Key)>
     ensures { result ≡ nearer best (record { dot = d; key = k }) }
 {
     match best {
-        Next::Nothing => Next::At(d, k),
-        Next::At(e, j) => {
+        None => Some((d, k)),
+        Some((e, j)) => {
             if d.before(e) {
-                return Next::At(d, k);
+                return Some((d, k));
             }
-            Next::At(e, j)
+            Some((e, j))
         }
     }
 }
 
 // The same with a dot of the point k, where it lies behind the last one and arrives new.
-fn with_dot(image: &[u8], count: usize, k: Key, d: Dot, last: Dot, best: Next) -> Next
+fn with_dot(image: &[u8], count: usize, k: Key, d: Dot, last: Dot, best: Option<(Dot, Key)>) -> Option<(Dot, Key)>
     requires { (length image.now ≡ image_length) × Canonical image.now × (count ≡ length (decode image.now).points) × (ascends? stored_before (decode image.now).points ≡ true) × Crew d.who }
     ensures { result ≡ with_new (decode image.now) k last best d }
 {
@@ -74,7 +65,7 @@ fn with_dot(image: &[u8], count: usize, k: Key, d: Dot, last: Dot, best: Next) -
 }
 
 // The same with the versions of the point block b.
-fn next_in_point(image: &[u8], count: usize, b: &[u8], last: Dot, start: Next) -> Next
+fn next_in_point(image: &[u8], count: usize, b: &[u8], last: Dot, start: Option<(Dot, Key)>) -> Option<(Dot, Key)>
     requires { (length image.now ≡ image_length) × Canonical image.now × (count ≡ length (decode image.now).points) × (ascends? stored_before (decode image.now).points ≡ true)
         × (length b.now ≡ 512) × (field b.now 5 1 ≤ 8) × (crewed (decode_point form_1 b.now).object.versions ≡ true) }
     ensures { result ≡ nearest last start (new_of (decode image.now) (decode_stored form_1 b.now)) }
@@ -91,13 +82,13 @@ fn next_in_point(image: &[u8], count: usize, b: &[u8], last: Dot, start: Next) -
 }
 
 // The same with all points of a message.
-fn next_new(image: &[u8], count: usize, points: &[u8], last: Dot) -> Next
+fn next_new(image: &[u8], count: usize, points: &[u8], last: Dot) -> Option<(Dot, Key)>
     requires { (length image.now ≡ image_length) × Canonical image.now × (count ≡ length (decode image.now).points) × (ascends? stored_before (decode image.now).points ≡ true)
         × Few points.now × Crewed points.now }
-    ensures { result ≡ nearest last Nothing (newly_arrived (decode image.now) (points_in points.now)) }
+    ensures { result ≡ nearest last None (newly_arrived (decode image.now) (points_in points.now)) }
 {
     let many = points.len() / 512;
-    let mut best = Next::Nothing;
+    let mut best = None;
     let mut j: usize = 0;
     while j < many {
         let at = 512 * j;
@@ -116,8 +107,8 @@ fn list_dot(image: &mut [u8], d: Dot, k: Key)
     ensures { (decode image.new ≡ with_list (decode image.old) 2 (place listed_before (record { dot = d; key = k }) (decode image.old).foreign_dots)) × Canonical image.new }
 {
     match dots::find_dot(&image[1024..1536], d) {
-        Found::At(_) => {}
-        Found::Before(i) => image_edits::insert_dot(image, 2, i, d, k),
+        Ok(_) => {}
+        Err(i) => image_edits::insert_dot(image, 2, i, d, k),
     }
 }
 
@@ -134,8 +125,8 @@ pub fn list_new(image: &mut [u8], count: usize, points: &[u8])
     let mut listed = dots::entry_count(&image[1024..1536]) as usize;
     while listed < 60 {
         match next_new(image, count, points, last) {
-            Next::Nothing => return,
-            Next::At(d, k) => {
+            None => return,
+            Some((d, k)) => {
                 list_dot(image, d, k);
                 last = d;
                 listed += 1;

@@ -133,7 +133,7 @@ module _ {A : Type 0} where
       (λ h. ⊎_elim (λ e. Memᴰ.cast e (place_here b x (place_all b xs ys))) (λ k. keep_it (rest (inl k))) (Memᴰ.cases_cons h))
       (λ h. keep_it (rest (inr h))) m
 
--- what is in the lists that map and concat-map build
+-- what is in the lists that map and concat_map build
 pub in_map : {A B : Type 0} (f : A → B) (xs : List A) {y : B} → y ∈ map f xs → (x : A) × (x ∈ xs) × (y ≡ f x)
 in_map f [] m = absurd (Memᴰ.not-nil m)
 in_map f (x ∷ xs) m =

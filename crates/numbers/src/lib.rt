@@ -6,26 +6,26 @@ ghost use Rattle.numbers.specs.Dot.{same_dot, dot_before};
 ghost use Rattle.numbers.specs.Key.{same_key, key_before};
 
 // A controller number, 1 to 8.
-#[derive(Clone, Copy)]
+#[derive(Clone, Copy, PartialEq, Eq, PartialOrd, Ord)]
 pub struct Controller(pub u8);
 
 // A counter, 1 to 4,294,967,295; as an entry of a context, 0 for none.
-#[derive(Clone, Copy)]
+#[derive(Clone, Copy, PartialEq, Eq, PartialOrd, Ord)]
 pub struct Counter(pub u32);
 
 // A point number, 1 to 65,535, within a job.
-#[derive(Clone, Copy)]
+#[derive(Clone, Copy, PartialEq, Eq, PartialOrd, Ord)]
 pub struct Point(pub u16);
 
 // "A dot is a controller number and a counter": the name of one write.
-#[derive(Clone, Copy)]
+#[derive(Clone, Copy, PartialEq, Eq, PartialOrd, Ord)]
 pub struct Dot {
     pub who: Controller,
     pub count: Counter,
 }
 
 // A point of the crew: its job, 0 to 7, and its number within the job.
-#[derive(Clone, Copy)]
+#[derive(Clone, Copy, PartialEq, Eq, PartialOrd, Ord)]
 pub struct Key {
     pub job: u8,
     pub point: Point,
@@ -35,23 +35,14 @@ impl Dot {
     pub fn same(self, other: Dot) -> bool
         ensures { result ≡ same_dot self other }
     {
-        if self.who.0 != other.who.0 {
-            return false;
-        }
-        self.count.0 == other.count.0
+        self == other
     }
 
     // "ascending by controller and counter"
     pub fn before(self, other: Dot) -> bool
         ensures { result ≡ dot_before self other }
     {
-        if self.who.0 < other.who.0 {
-            return true;
-        }
-        if self.who.0 != other.who.0 {
-            return false;
-        }
-        self.count.0 < other.count.0
+        self < other
     }
 }
 
@@ -59,22 +50,13 @@ impl Key {
     pub fn same(self, other: Key) -> bool
         ensures { result ≡ same_key self other }
     {
-        if self.job != other.job {
-            return false;
-        }
-        self.point.0 == other.point.0
+        self == other
     }
 
     // "ascending by job and point"
-    pub fn before(self, other: Key) -> bool
-        ensures { result ≡ key_before self other }
+    pub fn before(self, next: Key) -> bool
+        ensures { result ≡ key_before self next }
     {
-        if self.job < other.job {
-            return true;
-        }
-        if self.job != other.job {
-            return false;
-        }
-        self.point.0 < other.point.0
+        self < next
     }
 }

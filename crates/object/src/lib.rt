@@ -14,7 +14,6 @@ ghost use Rattle.record.specs.Crewed.{crewed};
 ghost use Rattle.object.specs.Versions.{VersionIn};
 ghost use Rattle.record_edits.specs.Written.{lay_point, point_block, with_object, with_versions};
 
-use dots::Found;
 use numbers::{Controller, Counter, Dot};
 
 pub fn filled_entry(e: Counter, holder: bool, base: u32) -> Counter
@@ -176,7 +175,7 @@ pub fn ahead(stored: &[u8], job: u8, table: &[u8], rows: &[u8], context: &[u32])
 
 // Where the version of this dot stands, or the place before which it would stand: "ascending by dot". They are at most eight, so each is
 // looked at in turn.
-pub fn find_version(b: &[u8], d: Dot) -> Found
+pub fn find_version(b: &[u8], d: Dot) -> Result<usize, usize>
     requires { (length b.now ≡ 512) × (field b.now 5 1 ≤ 8) × (ascends? version_before (decode_point form_1 b.now).object.versions ≡ true) }
     ensures { VersionIn (decode_point form_1 b.now).object.versions d result }
 {
@@ -185,14 +184,14 @@ pub fn find_version(b: &[u8], d: Dot) -> Found
     while i < count {
         let v = record::version_dot(b, i);
         if d.before(v) {
-            return Found::Before(i);
+            return Err(i);
         }
         if !v.before(d) {
-            return Found::At(i);
+            return Ok(i);
         }
         i += 1;
     }
-    Found::Before(i)
+    Err(i)
 }
 
 // A slot alone: "controller, length (255 = deleted), two zero bytes, counter (4)".
@@ -214,10 +213,10 @@ pub fn put_version(b: &mut [u8], slot: &[u8])
         × Laid lay_point point_block b.new }
 {
     match find_version(b, slot_dot(slot)) {
-        Found::At(i) => {
+        Ok(i) => {
             record_edits::remove_version(b, i);
             record_edits::insert_version(b, i, slot);
         }
-        Found::Before(i) => record_edits::insert_version(b, i, slot),
+        Err(i) => record_edits::insert_version(b, i, slot),
     }
 }

@@ -1,8 +1,18 @@
 -- The contracts of the public calls: the answer, the count and every byte of every buffer that the call may write, each equal to what the call's
 -- definition says. `told` is how the answer is told: the verdict itself, or its number for C. Assumes nothing.
-use Rattle.std.specs.Prelude.{ℕ, ◌≡◌, List}
-use Rattle.refusal.specs.declared.Verdict.{Verdict}
+use Rattle.std.specs.Prelude.{ℕ, ◌≡◌, List, Result, Ok, Err}
+use Rattle.refusal.specs.declared.Refusal.{Refusal}
 use Rattle.layout.specs.Calls.{After, start_call, read_call, write_call, delete_call, take_in_call, ask_call, reply_call, repair_call, strip_pass_call}
+use Rattle.refusal.specs.Refusal.{Verdict}
+
+-- the answer of a call with a count, without the count; and the count, which is 0 where the call is refused
+abbrev pub without_count : Result ℕ Refusal → Verdict
+without_count (Ok n) = Ok tt
+without_count (Err r) = Err r
+
+abbrev pub count_in : Result ℕ Refusal → ℕ
+count_in (Ok n) = n
+count_in (Err r) = 0
 
 -- the answer and what stands in one buffer
 abbrev pub One : {A : Type 0} → (Verdict → A) → (After → List ℕ) → After → A → List ℕ → Type 0

@@ -10,7 +10,7 @@ ghost use Rattle.layout.specs.Image.{image_length, decode};
 ghost use Rattle.opening.specs.Admitted.{opened, admitted};
 
 use numbers::{Key, Point};
-use refusal::{Refusal, Verdict};
+use refusal::Refusal;
 
 // The point that two numbers name.
 pub fn named(job: u8, point: u16) -> Key
@@ -38,39 +38,28 @@ fn is_ours(image: &[u8], k: Key) -> bool
 }
 
 // Rows 1 and 2 of the table. `lengths` says whether those of the buffers beside the image are right.
-pub fn opens(image: &[u8], lengths: bool) -> Verdict
+pub fn opens(image: &[u8], lengths: bool) -> Result<(), Refusal>
     ensures { result ≡ verdict_of (opened image.now lengths) }
 {
     if image.len() != 34304 {
-        return Verdict::Refused(Refusal::WrongLength);
+        return Err(Refusal::WrongLength);
     }
     if !lengths {
-        return Verdict::Refused(Refusal::WrongLength);
+        return Err(Refusal::WrongLength);
     }
     if !image::good(image) {
-        return Verdict::Refused(Refusal::ImageNotGood);
+        return Err(Refusal::ImageNotGood);
     }
-    Verdict::Accepted
+    Ok(())
 }
 
 // Rows 1, 2 and 5.
-pub fn admit(image: &[u8], lengths: bool, k: Key) -> Verdict
+pub fn admit(image: &[u8], lengths: bool, k: Key) -> Result<(), Refusal>
     ensures { result ≡ verdict_of (admitted image.now lengths k) }
 {
-    match opens(image, lengths) {
-        Verdict::Refused(r) => Verdict::Refused(r),
-        Verdict::Accepted => {
-            if !is_ours(image, k) {
-                return Verdict::Refused(Refusal::OutOfRange);
-            }
-            Verdict::Accepted
-        }
+    opens(image, lengths)?;
+    if !is_ours(image, k) {
+        return Err(Refusal::OutOfRange);
     }
-}
-
-// What a call with a count answers.
-#[derive(Clone, Copy)]
-pub struct Tally {
-    pub verdict: Verdict,
-    pub count: u32,
+    Ok(())
 }

@@ -8,7 +8,6 @@ use Rattle.numbers.specs.declared.Controller.{Controller}
 use Rattle.numbers.specs.declared.Key.{Key}
 use Rattle.numbers.specs.Words.{keep}
 use Rattle.numbers.specs.Key.{key}
-use Rattle.refusal.specs.declared.Verdict.TheVariants.{Accepted, Refused}
 use Rattle.refusal.specs.declared.Refusal.{Refusal}
 use Rattle.refusal.specs.declared.Refusal.TheVariants.{OutOfRange}
 use Rattle.refusal.specs.Refusal.{Answer, refused, accepted, refuse◌when◌else◌, ◌>>=◌, verdict_of}
@@ -30,6 +29,7 @@ use Rattle.store.proofs.Lent.{table_part, clock_part, own_part}
 use Rattle.store.proofs.Untouched.{untouched}
 use Rattle.opening.specs.Admitted.{admitted}
 use Rattle.opening.proofs.Ladder.{refused_leaves, not_admitted_first, admitted_then, what_is_admitted}
+use Rattle.std.specs.Prelude.{Ok, Err}
 
 -- ---- case by case
 
@@ -41,12 +41,12 @@ module _ (img : List ℕ) (job point : ℕ) (out : List ℕ) where
   unfolding read refuse◌when◌else◌
   asks s h = rw h
 
-  pub read_refused : (r : Refusal) → verdict_of (admitted img (one_block out) (key job point)) ≡ Refused r → read_call img job point out ≡ untouched r img out
+  pub read_refused : (r : Refusal) → verdict_of (admitted img (one_block out) (key job point)) ≡ Err r → read_call img job point out ≡ untouched r img out
   unfolding read_call
   read_refused r e = refused_leaves img out (on_image (one_block out) img step) r (not_admitted_first img (one_block out) (key job point) step asks r e)
 
-  pub read_shown : verdict_of (admitted img (one_block out) (key job point)) ≡ Accepted
-      → read_call img job point out ≡ record { verdict = Accepted; image = img; out = encode_reading (record { sender = (decode img).own; key = key job point; object = shown (local (decode img) (key job point)) }); count = 0 }
+  pub read_shown : verdict_of (admitted img (one_block out) (key job point)) ≡ Ok tt
+      → read_call img job point out ≡ record { verdict = Ok tt; image = img; out = encode_reading (record { sender = (decode img).own; key = key job point; object = shown (local (decode img) (key job point)) }); count = 0 }
   unfolding read_call afterwards read refuse◌when◌else◌
   read_shown e =
       ap (afterwards img out) (admitted_then img (one_block out) (key job point) step asks e)

@@ -1,5 +1,5 @@
 -- The strip pass, record by record, and its definition case by case. Assumes nothing.
-use Rattle.std.specs.Prelude.{if◌then◌else◌}
+use Rattle.std.specs.Prelude.{if◌then◌else◌, Ok, Err}
 use Prim.Native.Nat.{ℕ, suc, ◌-◌, ◌≤◌, ◌<◌}
 use mathlib.Core.Path.{◌≡◌, refl, ap, ap₂, sym, ◌∙◌}
 use mathlib.Core.Bool.{Bool, true, false}
@@ -7,7 +7,6 @@ use mathlib.Core.List.{List, [], ◌∷◌}
 use native.Mathlib.Omega.{arith}
 use lib.ListN.{length, take, drop, get_or, length-append, length-take, length-drop}
 use Rattle.numbers.specs.Words.{ascends?}
-use Rattle.refusal.specs.declared.Verdict.TheVariants.{Accepted, Refused}
 use Rattle.refusal.specs.declared.Refusal.{Refusal}
 use Rattle.refusal.specs.Refusal.{Answer, accepted, verdict_of}
 use Rattle.block.specs.Fields.{put_at, remove_at}
@@ -112,10 +111,10 @@ module _ (img : List ℕ) where
   abbrev step : State → Answer Left
   step s = accepted (record { image = encode (strip_pass s).state; out = []; count = (strip_pass s).count })
 
-  pub strip_refused : (r : Refusal) → verdict_of (opened img true) ≡ Refused r → strip_pass_call img ≡ untouched r img []
+  pub strip_refused : (r : Refusal) → verdict_of (opened img true) ≡ Err r → strip_pass_call img ≡ untouched r img []
   unfolding strip_pass_call
   strip_refused r e = refused_leaves img [] (on_image true img step) r (refused_first img true step r e)
 
-  pub strip_passed : verdict_of (opened img true) ≡ Accepted → strip_pass_call img ≡ record { verdict = Accepted; image = encode (strip_pass (decode img)).state; out = []; count = (strip_pass (decode img)).count }
+  pub strip_passed : verdict_of (opened img true) ≡ Ok tt → strip_pass_call img ≡ record { verdict = Ok tt; image = encode (strip_pass (decode img)).state; out = []; count = (strip_pass (decode img)).count }
   unfolding strip_pass_call afterwards
   strip_passed e = ap (afterwards img []) (opened_steps img true step e)

@@ -8,7 +8,6 @@ use lib.Dec.{eqb}
 use Rattle.numbers.specs.Words.{map}
 use Rattle.numbers.specs.Numbers.{counter}
 use Rattle.numbers.specs.Key.{key}
-use Rattle.refusal.specs.declared.Verdict.TheVariants.{Accepted, Refused}
 use Rattle.refusal.specs.declared.Refusal.{Refusal}
 use Rattle.refusal.specs.declared.Refusal.TheVariants.{OutOfRange}
 use Rattle.refusal.specs.Refusal.{Answer, refused, refuse◌when◌else◌, verdict_of}
@@ -20,6 +19,7 @@ use Rattle.writing.specs.LeftBy.{left_by}
 use Rattle.store.proofs.Untouched.{untouched}
 use Rattle.opening.specs.Admitted.{admitted}
 use Rattle.opening.proofs.Ladder.{refused_leaves, not_admitted_first, admitted_then}
+use Rattle.std.specs.Prelude.{Ok, Err}
 
 module _ (img : List ℕ) (job point : ℕ) (c out : List ℕ) where
   abbrev lengths : mathlib.Core.Bool.Bool
@@ -33,10 +33,10 @@ module _ (img : List ℕ) (job point : ℕ) (c out : List ℕ) where
     refuses : (s : State) → ours s (key job point) ≡ false → step s ≡ refused OutOfRange
     refuses s h = ap left_by (asks s h)
 
-    not_admitted : (r : Refusal) → verdict_of (admitted img lengths (key job point)) ≡ Refused r → afterwards img out (on_image lengths img step) ≡ untouched r img out
+    not_admitted : (r : Refusal) → verdict_of (admitted img lengths (key job point)) ≡ Err r → afterwards img out (on_image lengths img step) ≡ untouched r img out
     not_admitted r e = refused_leaves img out (on_image lengths img step) r (not_admitted_first img lengths (key job point) step refuses r e)
 
-    goes_on : verdict_of (admitted img lengths (key job point)) ≡ Accepted → afterwards img out (on_image lengths img step) ≡ afterwards img out (left_by (does (decode img)))
+    goes_on : verdict_of (admitted img lengths (key job point)) ≡ Ok tt → afterwards img out (on_image lengths img step) ≡ afterwards img out (left_by (does (decode img)))
     goes_on e = ap (afterwards img out) (admitted_then img lengths (key job point) step refuses e)
 
   write_asks : (v : List ℕ) (s : State) → ours s (key job point) ≡ false → write s (key job point) v (map counter c) ≡ refused OutOfRange
@@ -47,18 +47,18 @@ module _ (img : List ℕ) (job point : ℕ) (c out : List ℕ) where
   unfolding delete refuse◌when◌else◌
   delete_asks s h = rw h
 
-  pub write_refused : (v : List ℕ) (r : Refusal) → verdict_of (admitted img (eqb (length c) 8 && one_block out) (key job point)) ≡ Refused r → write_call img job point v c out ≡ untouched r img out
+  pub write_refused : (v : List ℕ) (r : Refusal) → verdict_of (admitted img (eqb (length c) 8 && one_block out) (key job point)) ≡ Err r → write_call img job point v c out ≡ untouched r img out
   unfolding write_call
   write_refused v r e = not_admitted (λ s. write s (key job point) v (map counter c)) (write_asks v) r e
 
-  pub write_goes_on : (v : List ℕ) → verdict_of (admitted img (eqb (length c) 8 && one_block out) (key job point)) ≡ Accepted → write_call img job point v c out ≡ afterwards img out (left_by (write (decode img) (key job point) v (map counter c)))
+  pub write_goes_on : (v : List ℕ) → verdict_of (admitted img (eqb (length c) 8 && one_block out) (key job point)) ≡ Ok tt → write_call img job point v c out ≡ afterwards img out (left_by (write (decode img) (key job point) v (map counter c)))
   unfolding write_call
   write_goes_on v e = goes_on (λ s. write s (key job point) v (map counter c)) (write_asks v) e
 
-  pub delete_refused : (r : Refusal) → verdict_of (admitted img (eqb (length c) 8 && one_block out) (key job point)) ≡ Refused r → delete_call img job point c out ≡ untouched r img out
+  pub delete_refused : (r : Refusal) → verdict_of (admitted img (eqb (length c) 8 && one_block out) (key job point)) ≡ Err r → delete_call img job point c out ≡ untouched r img out
   unfolding delete_call
   delete_refused r e = not_admitted (λ s. delete s (key job point) (map counter c)) delete_asks r e
 
-  pub delete_goes_on : verdict_of (admitted img (eqb (length c) 8 && one_block out) (key job point)) ≡ Accepted → delete_call img job point c out ≡ afterwards img out (left_by (delete (decode img) (key job point) (map counter c)))
+  pub delete_goes_on : verdict_of (admitted img (eqb (length c) 8 && one_block out) (key job point)) ≡ Ok tt → delete_call img job point c out ≡ afterwards img out (left_by (delete (decode img) (key job point) (map counter c)))
   unfolding delete_call
   delete_goes_on e = goes_on (λ s. delete s (key job point) (map counter c)) delete_asks e

@@ -9,11 +9,10 @@ ghost use Rattle.layout.specs.Clocks.{decode_clock};
 ghost use Rattle.layout.specs.Image.{image_length, encode, decode, good_image};
 ghost use Rattle.layout.specs.Messages.{encode_reading};
 ghost use Rattle.layout.specs.Calls.{one_block};
-ghost use Rattle.opening.specs.CallContracts.{Reads, Writes, Deletes, Strips};
+ghost use Rattle.opening.specs.CallContracts.{without_count, count_in, Reads, Writes, Deletes, Strips};
 
 use numbers::Key;
-use opening::Tally;
-use refusal::Verdict;
+use refusal::Refusal;
 
 // ---- reading
 
@@ -30,17 +29,13 @@ fn write_reading(image: &[u8], k: Key, out: &mut [u8])
     block::seal_block(out);
 }
 
-pub fn read(image: &[u8], job: u8, point: u16, out: &mut [u8]) -> Verdict
+pub fn read(image: &[u8], job: u8, point: u16, out: &mut [u8]) -> Result<(), Refusal>
     ensures { Reads (λ v. v) image.now job point out.old result out.new }
 {
     let k = opening::named(job, point);
-    match opening::admit(image, out.len() == 512, k) {
-        Verdict::Refused(r) => Verdict::Refused(r),
-        Verdict::Accepted => {
-            write_reading(image, k, out);
-            Verdict::Accepted
-        }
-    }
+    opening::admit(image, out.len() == 512, k)?;
+    write_reading(image, k, out);
+    Ok(())
 }
 
 // ---- writing and deleting
@@ -59,24 +54,20 @@ pub fn write(
     value: &[u8],
     context: &[u32],
     out: &mut [u8],
-) -> Verdict
+) -> Result<(), Refusal>
     ensures { Writes (λ v. v) image.old job point value.now context.now out.old result image.new out.new }
 {
     let k = opening::named(job, point);
-    match opening::admit(image, lengths_right(context, out), k) {
-        Verdict::Refused(r) => Verdict::Refused(r),
-        Verdict::Accepted => writing::write_at(image, k, value, context, out),
-    }
+    opening::admit(image, lengths_right(context, out), k)?;
+    writing::write_at(image, k, value, context, out)
 }
 
-pub fn delete(image: &mut [u8], job: u8, point: u16, context: &[u32], out: &mut [u8]) -> Verdict
+pub fn delete(image: &mut [u8], job: u8, point: u16, context: &[u32], out: &mut [u8]) -> Result<(), Refusal>
     ensures { Deletes (λ v. v) image.old job point context.now out.old result image.new out.new }
 {
     let k = opening::named(job, point);
-    match opening::admit(image, lengths_right(context, out), k) {
-        Verdict::Refused(r) => Verdict::Refused(r),
-        Verdict::Accepted => writing::delete_at(image, k, context, out),
-    }
+    opening::admit(image, lengths_right(context, out), k)?;
+    writing::delete_at(image, k, context, out)
 }
 
 // ---- strip pass
@@ -99,22 +90,12 @@ fn strip_all(image: &mut [u8], rows: &[u8]) -> u32
     (stored - count) as u32
 }
 
-pub fn strip_pass(image: &mut [u8]) -> Tally
-    ensures { Strips (λ v. v) image.old result.verdict image.new result.count }
+// The answer, and how many records went.
+pub fn strip_pass(image: &mut [u8]) -> Result<u32, Refusal>
+    ensures { Strips (λ v. v) image.old (without_count result) image.new (count_in result) }
 {
-    match opening::opens(image, true) {
-        Verdict::Refused(r) => Tally {
-            verdict: Verdict::Refused(r),
-            count: 0,
-        },
-        Verdict::Accepted => {
-            let mut rows: [u8; 96] = [0; 96];
-            block::copy_in(&mut rows, 0, &image[16..112]);
-            let count = strip_all(image, &rows);
-            Tally {
-                verdict: Verdict::Accepted,
-                count: count,
-            }
-        }
-    }
+    opening::opens(image, true)?;
+    let mut rows: [u8; 96] = [0; 96];
+    block::copy_in(&mut rows, 0, &image[16..112]);
+    Ok(strip_all(image, &rows))
 }

@@ -1,9 +1,9 @@
 -- What a repair through a reader asks of the image and the reply, and what it leaves. Assumes nothing.
 use Rattle.std.specs.Prelude.{ℕ, ◌≡◌, true, List, [], length}
-use Rattle.refusal.specs.declared.Verdict.{Verdict}
 use Rattle.layout.specs.Image.{image_length, good_image}
 use Rattle.layout.specs.Calls.{afterwards, whole_reply}
 use Rattle.repairing.specs.Repaired.{repaired}
+use Rattle.refusal.specs.Refusal.{Verdict}
 
 -- a good image, and a reply of whole blocks that fits the room for one
 abbrev pub Repairable : List ℕ → List ℕ → Type 0

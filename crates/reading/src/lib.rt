@@ -6,10 +6,10 @@ ghost use Rattle.std.specs.Prelude.{◌≡◌};
 ghost use Rattle.reading.specs.Reading.{Repairable, Repairs};
 
 use reader::Reader;
-use refusal::Verdict;
+use refusal::Refusal;
 
 // The reader is taken apart; it has handed out nothing yet.
-pub fn repair_by<'i, 'a>(image: &'i mut [u8], r: Reader<'a>) -> Verdict
+pub fn repair_by<'i, 'a>(image: &'i mut [u8], r: Reader<'a>) -> Result<(), Refusal>
     requires { Repairable image.old r.reply.now × (r.at ≡ 0) }
     ensures { Repairs image.old r.entry.reply.now result image.new }
 {
@@ -17,7 +17,7 @@ pub fn repair_by<'i, 'a>(image: &'i mut [u8], r: Reader<'a>) -> Verdict
 }
 
 // The reply is given a reader at its first point, so that a caller has plain slices only.
-pub fn repair_read<'i, 'a>(image: &'i mut [u8], reply: &'a [u8]) -> Verdict
+pub fn repair_read<'i, 'a>(image: &'i mut [u8], reply: &'a [u8]) -> Result<(), Refusal>
     requires { Repairable image.old reply.now }
     ensures { Repairs image.old reply.now result image.new }
 {

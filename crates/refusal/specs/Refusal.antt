@@ -1,8 +1,6 @@
 -- "When it says no: checks run in this order; the first that applies is returned." Assumes nothing.
-use Rattle.std.specs.Prelude.{ℕ, Bool, true, false}
+use Rattle.std.specs.Prelude.{ℕ, Bool, true, false, Result, Ok, Err, ⊤}
 use Rattle.refusal.specs.declared.Refusal.{Refusal}
-use Rattle.refusal.specs.declared.Verdict.{Verdict}
-use Rattle.refusal.specs.declared.Verdict.TheVariants.{Accepted, Refused}
 use Rattle.refusal.specs.declared.Refusal.TheVariants.{WrongLength, ImageNotGood, WrongCheck, IllFormed, OutOfRange, NotPeer, ValueTooLong, ContextAhead, HistoryLost, DotClash, RowTooFar, TooManyVersions, TooManyPoints, OwnListFull, CountersUsedUp}
 
 -- the numbers of the table
@@ -23,10 +21,14 @@ number TooManyPoints = 13
 number OwnListFull = 14
 number CountersUsedUp = 15
 
+-- what a call answers: that it is accepted, or why it is refused
+abbrev pub Verdict : Type 0
+Verdict = Result ⊤ Refusal
+
 -- "An accepted call returns 0"
 abbrev pub answer_number : Verdict → ℕ
-answer_number Accepted = 0
-answer_number (Refused r) = number r
+answer_number (Ok _) = 0
+answer_number (Err r) = number r
 
 -- a step is refused, or it is accepted and gives its result
 pub data Answer (A : Type 0) : Type 0 where
@@ -49,5 +51,5 @@ module _ {A B : Type 0} where
 
 -- what is answered, without the result
 abbrev pub verdict_of : {A : Type 0} → Answer A → Verdict
-verdict_of (refused r) = Refused r
-verdict_of (accepted a) = Accepted
+verdict_of (refused r) = Err r
+verdict_of (accepted a) = Ok tt

@@ -4,7 +4,7 @@
 ghost use Rattle.std.specs.Prelude.{◌≡◌};
 ghost use Rattle.refusal.specs.Refusal.{number, answer_number};
 
-#[derive(Clone, Copy)]
+#[derive(Clone, Copy, Debug, PartialEq, Eq)]
 pub enum Refusal {
     // 1: a lent buffer has the wrong length
     WrongLength,
@@ -38,12 +38,12 @@ pub enum Refusal {
     CountersUsedUp,
 }
 
-impl Refusal {
-    // The number that document 01's table gives.
-    pub fn number(self) -> u32
-        ensures { result ≡ number self }
-    {
-        match self {
+// The number that document 01's table gives.
+impl From<Refusal> for u32 {
+    ghost from_gives = { λ r n. n ≡ number r };
+
+    fn from(r: Refusal) -> u32 {
+        match r {
             Refusal::WrongLength => 1,
             Refusal::ImageNotGood => 2,
             Refusal::WrongCheck => 3,
@@ -63,21 +63,12 @@ impl Refusal {
     }
 }
 
-// What a call answers.
-#[derive(Clone, Copy)]
-pub enum Verdict {
-    Accepted,
-    Refused(Refusal),
-}
-
-impl Verdict {
-    // "An accepted call returns 0"; a refused one the refusal's number.
-    pub fn number(self) -> u32
-        ensures { result ≡ answer_number self }
-    {
-        match self {
-            Verdict::Accepted => 0,
-            Verdict::Refused(r) => r.number(),
-        }
+// "An accepted call returns 0"; a refused one the refusal's number.
+pub fn answer_number(answer: Result<(), Refusal>) -> u32
+    ensures { result ≡ answer_number answer }
+{
+    match answer {
+        Ok(()) => 0,
+        Err(r) => u32::from(r),
     }
 }

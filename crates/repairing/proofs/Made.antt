@@ -6,7 +6,6 @@ use mathlib.Core.List.{List}
 use Rattle.numbers.specs.declared.Controller.{Controller}
 use Rattle.numbers.specs.Words.{fold}
 use Rattle.numbers.specs.Numbers.{Crew, same_controller}
-use Rattle.refusal.specs.declared.Verdict.TheVariants.{Accepted}
 use Rattle.refusal.specs.Refusal.{verdict_of}
 use Rattle.meaning.specs.Clock.{Clock}
 use Rattle.meaning.specs.State.{State}
@@ -28,8 +27,9 @@ use Rattle.tallying.specs.Tallied.{results_judged}
 use Rattle.tallying.proofs.Judged.{settle_made}
 use Rattle.repairing.specs.Repaired.{united, outcome, clock_after, Heard}
 use Rattle.repairing.proofs.OfReply.{passed, own_is, foreign_are, sender_crew, sender_other}
+use Rattle.std.specs.Prelude.{Ok}
 
-module _ (s : State) (G : Good s) (q : Reply) (h : Heard s q) (c : Clock) (is : c ≡ clock_after s q) (ok : verdict_of (results_judged s c (outcome s q) true) ≡ Accepted) where
+module _ (s : State) (G : Good s) (q : Reply) (h : Heard s q) (c : Clock) (is : c ≡ clock_after s q) (ok : verdict_of (results_judged s c (outcome s q) true) ≡ Ok tt) where
   -- the lists, the points and the clock are all that storing changes
   stored_is : with_clock (with_points (with_list s 2 (noted s q.points)) (fold (put c) s.points (outcome s q))) c ≡ settled s (united s q) (outcome s q)
   unfolding settled

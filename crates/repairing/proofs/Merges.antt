@@ -6,7 +6,6 @@ use mathlib.Core.List.{List}
 use native.Mathlib.Omega.{arith}
 use lib.ListN.{length, take}
 use Rattle.numbers.specs.Words.{map, fold, ascends?}
-use Rattle.refusal.specs.declared.Verdict.TheVariants.{Accepted}
 use Rattle.refusal.specs.Refusal.{verdict_of}
 use Rattle.block.specs.Fields.{cut}
 use Rattle.block.specs.Block.{block_at}
@@ -28,6 +27,7 @@ use Rattle.tallying.proofs.Judged.{passed}
 use Rattle.repairing.specs.Repaired.{outcome, Lent}
 use Rattle.repairing.proofs.OfReply.{in_order, results_are, all_ready}
 use Rattle.repairing.proofs.Passes.{first_joinable, first_room, first_order, after_first, second_ascends, second_joinable, second_order, second_room, after_second}
+use Rattle.std.specs.Prelude.{Ok}
 
 -- what a pass asks of the state that the image says
 abbrev pub MergeablePass : Clock → State → Clock → ℕ → List ℕ → List ℕ → Type 0
@@ -57,9 +57,9 @@ module _ (s : State) (G : Good s) (up : ascends? stored_before s.points ≡ true
   ordered = subst (λ (rs : List Stored). ascends? stored_before rs ≡ true) (sym same_results) (in_order s G q L.4)
 
   module _ (c : Clock) (size : length ms ≡ 120) (marks : take (length run / 512) ms ≡ map (λ r. mark (comes c s.points r)) (outcome s (reply_in head run)))
-      (ok : verdict_of (results_judged s c (outcome s (reply_in head run)) true) ≡ Accepted) where
-    judged : verdict_of (results_judged s c (results s k run) true) ≡ Accepted
-    judged = subst (λ (rs : List Stored). verdict_of (results_judged s c rs true) ≡ Accepted) (sym same_results) ok
+      (ok : verdict_of (results_judged s c (outcome s (reply_in head run)) true) ≡ Ok tt) where
+    judged : verdict_of (results_judged s c (results s k run) true) ≡ Ok tt
+    judged = subst (λ (rs : List Stored). verdict_of (results_judged s c rs true) ≡ Ok tt) (sym same_results) ok
 
     marks_of : take (length run / 512) ms ≡ map (λ r. mark (comes c s.points r)) (results s k run)
     marks_of = marks ∙ ap (map (λ r. mark (comes c s.points r))) (sym same_results)

@@ -9,7 +9,6 @@ use Rattle.numbers.specs.Words.{all?, some?, ascends?}
 use Rattle.numbers.specs.Numbers.{Crew, same_controller}
 use Rattle.numbers.proofs.Tests.{or_false, ◌∈◌}
 use Rattle.numbers.proofs.Orders.{map_ascends}
-use Rattle.refusal.specs.declared.Verdict.TheVariants.{Accepted}
 use Rattle.refusal.specs.declared.Refusal.TheVariants.{OutOfRange, NotPeer, HistoryLost, DotClash}
 use Rattle.refusal.specs.Refusal.{verdict_of}
 use Rattle.block.specs.Block.{block_at}
@@ -39,6 +38,7 @@ use Rattle.hearing.proofs.Filled.{filled_takable}
 use Rattle.mending.specs.Mended.{results}
 use Rattle.tallying.specs.Tallied.{AllReady}
 use Rattle.repairing.specs.Repaired.{united, outcome, clock_after, Heard}
+use Rattle.std.specs.Prelude.{Ok}
 
 -- what rows 5 to 10 leave of a reply
 pub record Passed (s : State) (q : Reply) : Type 0 where
@@ -47,7 +47,7 @@ pub record Passed (s : State) (q : Reply) : Type 0 where
   pub behind : (some? (λ p. ahead_of_us s p.object) q.points || row_ahead_of_us s q.clock) ≡ false
   pub free : some? (λ p. some? (clashes s p.key) p.object.versions) q.points ≡ false
 
-pub passed : (s : State) (q : Reply) → verdict_of (peers_judged s q true) ≡ Accepted → Passed s q
+pub passed : (s : State) (q : Reply) → verdict_of (peers_judged s q true) ≡ Ok tt → Passed s q
 unfolding peers_judged
 passed s q e =
     let a = (accepted_with (peers_judged s q true) e).1 in

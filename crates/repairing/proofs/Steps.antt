@@ -5,7 +5,6 @@ use mathlib.Core.Bool.{true, false}
 use mathlib.Core.List.{List, []}
 use native.Mathlib.Omega.{arith}
 use lib.ListN.{length, take, drop}
-use Rattle.refusal.specs.declared.Verdict.TheVariants.{Accepted, Refused}
 use Rattle.refusal.specs.declared.Refusal.{Refusal}
 use Rattle.refusal.specs.declared.Refusal.TheVariants.{WrongCheck, IllFormed, RowTooFar}
 use Rattle.refusal.specs.Refusal.{Answer, accepted, ◌>>=◌, verdict_of}
@@ -33,14 +32,15 @@ use Rattle.hearing.specs.Heard.{reply_in, reply_judged}
 use Rattle.hearing.proofs.Points.{reply_lent}
 use Rattle.hearing.proofs.Accepted.{judged_facts, judged_refused, judged_accepted}
 use Rattle.repairing.specs.Repaired.{united, outcome, clock_after, Heard, Lent, made_of, repaired}
+use Rattle.std.specs.Prelude.{Ok, Err}
 
 module _ (s : State) (q : Reply) (c : Clock) (is : c ≡ clock_after s q) (img : List ℕ) where
-  pub not_made : (r : Refusal) → verdict_of (results_judged s c (outcome s q) true) ≡ Refused r → afterwards img [] (left_by (made_of s q)) ≡ untouched r img []
+  pub not_made : (r : Refusal) → verdict_of (results_judged s c (outcome s q) true) ≡ Err r → afterwards img [] (left_by (made_of s q)) ≡ untouched r img []
   unfolding afterwards
   not_made r e = ap (λ (a : Answer State). afterwards img [] (left_by (a >>= λ after. accepted (tidied after q)))) (settle_refused s c (outcome s q) (united s q) (sym is) r e)
 
-  pub made : verdict_of (results_judged s c (outcome s q) true) ≡ Accepted
-      → afterwards img [] (left_by (made_of s q)) ≡ record { verdict = Accepted; image = encode (tidied (settled s (united s q) (outcome s q)) q); out = []; count = 0 }
+  pub made : verdict_of (results_judged s c (outcome s q) true) ≡ Ok tt
+      → afterwards img [] (left_by (made_of s q)) ≡ record { verdict = Ok tt; image = encode (tidied (settled s (united s q) (outcome s q)) q); out = []; count = 0 }
   unfolding afterwards
   made e = ap (λ (a : Answer State). afterwards img [] (left_by (a >>= λ after. accepted (tidied after q)))) (settle_made s c (outcome s q) (united s q) (sym is) e)
 
@@ -50,7 +50,7 @@ module _ (s : State) (q : Reply) (c : Clock) (is : c ≡ clock_after s q) (img :
 
 -- ---- a whole reply that was judged
 
-pub heard : (m : List ℕ) (s : State) → verdict_of (reply_judged m s true) ≡ Accepted → Heard s (decode_reply m)
+pub heard : (m : List ℕ) (s : State) → verdict_of (reply_judged m s true) ≡ Ok tt → Heard s (decode_reply m)
 unfolding reply_judged with_message
 heard m s e =
     let a = (accepted_with (reply_judged m s true) e).1 in
@@ -71,10 +71,10 @@ module _ (img reply : List ℕ) (whole : whole_reply reply ≡ true) (small : By
   abbrev left : State → Answer Left
   left after = accepted (record { image = encode after; out = []; count = 0 })
 
-  pub not_repaired : (r : Refusal) → verdict_of (reply_judged reply (decode img) true) ≡ Refused r → afterwards img [] (repaired img reply) ≡ untouched r img []
+  pub not_repaired : (r : Refusal) → verdict_of (reply_judged reply (decode img) true) ≡ Err r → afterwards img [] (repaired img reply) ≡ untouched r img []
   not_repaired r e = refused_after img (repaired img reply) r (judged_refused reply s left r e)
 
-  module _ (ok : verdict_of (reply_judged reply (decode img) true) ≡ Accepted) (run : List ℕ) (from : run ≡ drop 512 reply) where
+  module _ (ok : verdict_of (reply_judged reply (decode img) true) ≡ Ok tt) (run : List ℕ) (from : run ≡ drop 512 reply) where
     laid : laid_out_reply reply ≡ true
     laid = (judged_facts reply s ok).laid_out
 

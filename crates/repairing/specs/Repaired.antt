@@ -1,7 +1,6 @@
 -- A repair of a good image: the clock that the results enter, the results, and what it leaves. Assumes nothing.
-use Rattle.std.specs.Prelude.{ℕ, ◌/◌, ◌≤◌, ◌≡◌, true, List, length}
+use Rattle.std.specs.Prelude.{ℕ, ◌/◌, ◌≤◌, ◌≡◌, true, List, length, Ok}
 use Rattle.numbers.specs.Words.{map}
-use Rattle.refusal.specs.declared.Verdict.TheVariants.{Accepted}
 use Rattle.refusal.specs.Refusal.{Answer, accepted, ◌>>=◌, verdict_of}
 use Rattle.meaning.specs.Clock.{Clock, row, with_row}
 use Rattle.meaning.specs.State.{Stored, State}
@@ -29,7 +28,7 @@ clock_after s q = entered (united s q) (outcome s q)
 
 -- a reply to which none of the refusals 4 to 10 applies
 abbrev pub Heard : State → Reply → Type 0
-Heard s q = (reply_formed s.table q ≡ true) × (verdict_of (peers_judged s q true) ≡ Accepted)
+Heard s q = (reply_formed s.table q ≡ true) × (verdict_of (peers_judged s q true) ≡ Ok tt)
 
 -- and so lent: its head, and its points' blocks, at most 120
 abbrev pub Lent : State → List ℕ → List ℕ → Type 0

@@ -1,9 +1,8 @@
 // Repair, on a good image: judged on the lent bytes, then made in place. A reply is lent as its head, one block, and its points' blocks behind it.
 #![tactic(auto)]
 
-ghost use Rattle.std.specs.Prelude.{◌≡◌, true, [], length, take, ◌/◌, ◌≤◌};
+ghost use Rattle.std.specs.Prelude.{◌≡◌, true, [], length, take, ◌/◌, ◌≤◌, Ok};
 ghost use Rattle.numbers.specs.Words.{map};
-ghost use Rattle.refusal.specs.declared.Verdict.TheVariants.{Accepted};
 ghost use Rattle.refusal.specs.Refusal.{verdict_of};
 ghost use Rattle.row.specs.Row.{fits};
 ghost use Rattle.meaning.specs.Clock.{every_row};
@@ -19,7 +18,7 @@ ghost use Rattle.tallying.specs.Tallied.{mark, results_judged};
 ghost use Rattle.taking.specs.Taken.{left_by};
 ghost use Rattle.repairing.specs.Repaired.{united, outcome, clock_after, Heard, Lent, made_of, repaired};
 
-use refusal::{Refusal, Verdict};
+use refusal::Refusal;
 
 // ---- making it
 
@@ -36,7 +35,7 @@ fn put_repaired(
     requires { (length image.old ≡ image_length) × (good_image image.old ≡ true) × (count ≡ length (decode image.old).points) × Lent (decode image.old) head.now points.now
         × (length rows.now ≡ 96) × (decode_clock rows.now ≡ clock_after (decode image.old) (reply_in head.now points.now)) × (length marks.now ≡ 120)
         × (take (length points.now / 512) marks.now ≡ map (λ q. mark (comes (decode_clock rows.now) (decode image.old).points q)) (outcome (decode image.old) (reply_in head.now points.now)))
-        × (verdict_of (results_judged (decode image.old) (decode_clock rows.now) (outcome (decode image.old) (reply_in head.now points.now)) true) ≡ Accepted) }
+        × (verdict_of (results_judged (decode image.old) (decode_clock rows.now) (outcome (decode image.old) (reply_in head.now points.now)) true) ≡ Ok tt) }
     ensures { image.new ≡ encode (tidied (settled (decode image.old) (united (decode image.old) (reply_in head.now points.now)) (outcome (decode image.old) (reply_in head.now points.now))) (reply_in head.now points.now)) }
 {
     noting::list_new(image, count, points);
@@ -56,19 +55,15 @@ fn repair_marked(
     points: &[u8],
     rows: &[u8],
     marks: &mut [u8],
-) -> Verdict
+) -> Result<(), Refusal>
     requires { (length image.old ≡ image_length) × (good_image image.old ≡ true) × (count ≡ length (decode image.old).points) × Lent (decode image.old) head.now points.now
         × (length rows.now ≡ 96) × (decode_clock rows.now ≡ clock_after (decode image.old) (reply_in head.now points.now)) × (every_row fits (decode_clock rows.now) ≡ true) × (length marks.old ≡ 120) }
     ensures { (result ≡ (afterwards image.old [] (left_by (made_of (decode image.old) (reply_in head.now points.now)))).verdict)
         × (image.new ≡ (afterwards image.old [] (left_by (made_of (decode image.old) (reply_in head.now points.now)))).image) }
 {
-    match tallying::judge_results(image, count, points, &head[8..104], rows, marks) {
-        Verdict::Refused(r) => Verdict::Refused(r),
-        Verdict::Accepted => {
-            put_repaired(image, count, head, points, rows, marks);
-            Verdict::Accepted
-        }
-    }
+    tallying::judge_results(image, count, points, &head[8..104], rows, marks)?;
+    put_repaired(image, count, head, points, rows, marks);
+    Ok(())
 }
 
 // The rows have taken what arrives.
@@ -78,7 +73,7 @@ fn repair_entered(
     head: &[u8],
     points: &[u8],
     rows: &[u8],
-) -> Verdict
+) -> Result<(), Refusal>
     requires { (length image.old ≡ image_length) × (good_image image.old ≡ true) × (count ≡ length (decode image.old).points) × Lent (decode image.old) head.now points.now
         × (length rows.now ≡ 96) × (decode_clock rows.now ≡ clock_after (decode image.old) (reply_in head.now points.now)) × (every_row fits (decode_clock rows.now) ≡ true) }
     ensures { (result ≡ (afterwards image.old [] (left_by (made_of (decode image.old) (reply_in head.now points.now)))).verdict)
@@ -89,7 +84,7 @@ fn repair_entered(
 }
 
 // 11, and then the rest.
-fn repair_heard(image: &mut [u8], head: &[u8], points: &[u8]) -> Verdict
+fn repair_heard(image: &mut [u8], head: &[u8], points: &[u8]) -> Result<(), Refusal>
     requires { (length image.old ≡ image_length) × (good_image image.old ≡ true) × Lent (decode image.old) head.now points.now }
     ensures { (result ≡ (afterwards image.old [] (left_by (made_of (decode image.old) (reply_in head.now points.now)))).verdict)
         × (image.new ≡ (afterwards image.old [] (left_by (made_of (decode image.old) (reply_in head.now points.now)))).image) }
@@ -98,21 +93,17 @@ fn repair_heard(image: &mut [u8], head: &[u8], points: &[u8]) -> Verdict
     let mut rows: [u8; 96] = [0; 96];
     let sender = greeting::sender_of(head);
     if !uniting::new_rows(image, count, sender, points, &head[8..104], &mut rows) {
-        return Verdict::Refused(Refusal::RowTooFar);
+        return Err(Refusal::RowTooFar);
     }
     repair_entered(image, count, head, points, &rows)
 }
 
 // Rows 3 to 10, and then the rest: what a reader of the reply that has handed out nothing yet brings.
-pub fn repair_at(image: &mut [u8], reply: &[u8], at: usize) -> Verdict
+pub fn repair_at(image: &mut [u8], reply: &[u8], at: usize) -> Result<(), Refusal>
     requires { (length image.old ≡ image_length) × (good_image image.old ≡ true) × (whole_reply reply.now ≡ true) × (at ≡ 0) }
     ensures { (result ≡ (afterwards image.old [] (repaired image.old reply.now)).verdict) × (image.new ≡ (afterwards image.old [] (repaired image.old reply.now)).image) }
 {
-    match hearing::judge_reply(image, reply) {
-        Verdict::Refused(r) => Verdict::Refused(r),
-        Verdict::Accepted => {
-            let from = 512 * (1 + at);
-            repair_heard(image, &reply[0..512], &reply[from..])
-        }
-    }
+    hearing::judge_reply(image, reply)?;
+    let from = 512 * (1 + at);
+    repair_heard(image, &reply[0..512], &reply[from..])
 }

@@ -10,7 +10,6 @@ use Rattle.numbers.specs.Words.{same_list}
 use Rattle.numbers.specs.Numbers.{Crew, is_controller, same_controller}
 use Rattle.numbers.proofs.Lists.{clause}
 use Rattle.numbers.proofs.Controllers.{crew_is}
-use Rattle.refusal.specs.declared.Verdict.TheVariants.{Accepted, Refused}
 use Rattle.refusal.specs.declared.Refusal.{Refusal}
 use Rattle.refusal.specs.declared.Refusal.TheVariants.{WrongCheck, IllFormed, NotPeer, HistoryLost}
 use Rattle.refusal.specs.Refusal.{Answer, refused, accepted, refuse◌when◌else◌, ◌>>=◌, verdict_of}
@@ -30,6 +29,7 @@ use Rattle.laws.proofs.Answers.{passes_not, then, by_refusal, by_none, accepted_
 use Rattle.store.proofs.Lent.{table_part, clock_part, own_part}
 use Rattle.replying.specs.Judged.{ask_judged}
 use Rattle.replying.specs.Sent.{sent_keys, sent_points, reply_of}
+use Rattle.std.specs.Prelude.{Ok, Err}
 
 pub asker_crew : (t : CrewTable) (a : Ask) → ask_formed t a ≡ true → Crew a.sender
 unfolding ask_formed
@@ -65,36 +65,36 @@ module _ (message : List ℕ) (s : State) where
 
   -- ---- row by row
 
-  pub wrong_check : checks_right message ≡ false → Refused WrongCheck ≡ verdict_of (ask_judged message s true)
+  pub wrong_check : checks_right message ≡ false → Err WrongCheck ≡ verdict_of (ask_judged message s true)
   unfolding ask_judged with_message refuse◌when◌else◌
   wrong_check h = sym (rw h)
 
   module _ (checked : checks_right message ≡ true) where
-    pub not_laid_out : laid_out_ask message ≡ false → Refused IllFormed ≡ verdict_of (ask_judged message s true)
+    pub not_laid_out : laid_out_ask message ≡ false → Err IllFormed ≡ verdict_of (ask_judged message s true)
     unfolding ask_judged with_message refuse◌when◌else◌
     not_laid_out h = sym (rw (checked, h))
 
     module _ (laid : laid_out_ask message ≡ true) where
-      pub not_formed : ask_formed s.table q ≡ false → Refused IllFormed ≡ verdict_of (ask_judged message s true)
+      pub not_formed : ask_formed s.table q ≡ false → Err IllFormed ≡ verdict_of (ask_judged message s true)
       unfolding ask_judged with_message refuse◌when◌else◌
       not_formed h = sym (rw (checked, laid, h))
 
       module _ (formed : ask_formed s.table q ≡ true) where
-        pub no_peer : other_peer s q.sender ≡ false → Refused NotPeer ≡ verdict_of (ask_judged message s true)
+        pub no_peer : other_peer s q.sender ≡ false → Err NotPeer ≡ verdict_of (ask_judged message s true)
         unfolding ask_judged with_message refuse◌when◌else◌
         no_peer h = sym (rw (checked, laid, formed, h))
 
         module _ (peer : other_peer s q.sender ≡ true) where
-          pub not_for_us : same_controller q.addressee s.own ≡ false → Refused NotPeer ≡ verdict_of (ask_judged message s true)
+          pub not_for_us : same_controller q.addressee s.own ≡ false → Err NotPeer ≡ verdict_of (ask_judged message s true)
           unfolding ask_judged with_message refuse◌when◌else◌
           not_for_us h = sym (rw (checked, laid, formed, peer, h))
 
           module _ (ours : same_controller q.addressee s.own ≡ true) where
-            pub history_lost : row_ahead_of_us s q.clock ≡ true → Refused HistoryLost ≡ verdict_of (ask_judged message s true)
+            pub history_lost : row_ahead_of_us s q.clock ≡ true → Err HistoryLost ≡ verdict_of (ask_judged message s true)
             unfolding ask_judged with_message refuse◌when◌else◌
             history_lost h = sym (rw (checked, laid, formed, peer, ours, h))
 
-            pub may_reply : row_ahead_of_us s q.clock ≡ false → Accepted ≡ verdict_of (ask_judged message s true)
+            pub may_reply : row_ahead_of_us s q.clock ≡ false → (Ok tt) ≡ verdict_of (ask_judged message s true)
             unfolding ask_judged with_message refuse◌when◌else◌
             may_reply h = sym (rw (checked, laid, formed, peer, ours, h))
 
@@ -120,14 +120,14 @@ module _ (message : List ℕ) (s : State) where
     any_result =
         same_rows (checks_right message) (laid_out_ask message) (ask_formed s.table q) (other_peer s q.sender && same_controller q.addressee s.own) (row_ahead_of_us s q.clock) replied g
 
-    pub judged_refused : (r : Refusal) → verdict_of (ask_judged message s true) ≡ Refused r → with_message message (laid_out_ask message) (reply s q >>= g) ≡ refused r
+    pub judged_refused : (r : Refusal) → verdict_of (ask_judged message s true) ≡ Err r → with_message message (laid_out_ask message) (reply s q >>= g) ≡ refused r
     judged_refused r e = any_result ∙ by_refusal (g replied) (ask_judged message s true) r e
 
-    pub judged_accepted : verdict_of (ask_judged message s true) ≡ Accepted
+    pub judged_accepted : verdict_of (ask_judged message s true) ≡ Ok tt
         → with_message message (laid_out_ask message) (reply s q >>= g) ≡ g (record { message = reply_of s (decode_ask message); count = length (sent_points s (decode_ask message)) })
     judged_accepted e = any_result ∙ by_none (g replied) (ask_judged message s true) e
 
-  pub judged_asker : verdict_of (ask_judged message s true) ≡ Accepted → Crew (decode_ask message).sender
+  pub judged_asker : verdict_of (ask_judged message s true) ≡ Ok tt → Crew (decode_ask message).sender
   unfolding ask_judged with_message
   judged_asker e =
       let a = (accepted_with (ask_judged message s true) e).1 in

@@ -1,5 +1,5 @@
 -- What the asker lacks, listed dot by listed dot, and the loop over a list. Assumes nothing.
-use Rattle.std.specs.Prelude.{if◌then◌else◌}
+use Rattle.std.specs.Prelude.{if◌then◌else◌, Option, None}
 use Prim.Native.Nat.{ℕ, ◌+◌, ◌≤◌, ◌<◌}
 use mathlib.Core.Path.{◌≡◌, refl, sym, ap, ap₂, ◌∙◌}
 use mathlib.Core.Bool.{Bool, true, false, ◌&&◌, not}
@@ -33,8 +33,6 @@ use Rattle.layout.specs.Image.{image_length, decode_dots, decode, good_image}
 use Rattle.layout.specs.Messages.{decode_ask}
 use Rattle.head.proofs.Rounds.{some_job}
 use Rattle.store.proofs.Lent.{table_part, good_now}
-use Rattle.replying.specs.declared.Next.{Next}
-use Rattle.replying.specs.declared.Next.TheVariants.{Nothing}
 use Rattle.replying.specs.Nearest.{all_crew, lacks, closer, with_key, nearest}
 use Rattle.store.proofs.ListsLent.{own_list, foreign_list}
 use Rattle.replying.proofs.Judging.{clock_lent}
@@ -111,41 +109,41 @@ lacking_is s a G = keep_same (whole_test s a) (lacks s.table a.sender a.clock) (
 
 module _ (f : Listed → Bool) (last : Key) where
   -- one more
-  with_one : (best : Next) (l : Listed) (ls : List Listed) → nearest last best (keep f (l ∷ ls)) ≡ nearest last (with_key f last best l) (keep f ls)
+  with_one : (best : Option Key) (l : Listed) (ls : List Listed) → nearest last best (keep f (l ∷ ls)) ≡ nearest last (with_key f last best l) (keep f ls)
   unfolding nearest with_key
   with_one best l ls = by_test (f l) (λ t. rw (t)) (λ t. rw (t))
 
-  pub two_lists : (best : Next) (ls ms : List Listed) → nearest last best (keep f (ls ++ ms)) ≡ nearest last (nearest last best (keep f ls)) (keep f ms)
+  pub two_lists : (best : Option Key) (ls ms : List Listed) → nearest last best (keep f (ls ++ ms)) ≡ nearest last (nearest last best (keep f ls)) (keep f ms)
   two_lists best [] ms = unfold nearest in refl
   two_lists best (l ∷ ls) ms =
       with_one best l (ls ++ ms) ∙ two_lists (with_key f last best l) ls ms
-      ∙ ap (λ (b : Next). nearest last b (keep f ms)) (sym (with_one best l ls))
+      ∙ ap (λ (b : Option Key). nearest last b (keep f ms)) (sym (with_one best l ls))
 
-  pub passed_by : (best : Next) (l : Listed) → f l ≡ false → best ≡ with_key f last best l
+  pub passed_by : (best : Option Key) (l : Listed) → f l ≡ false → best ≡ with_key f last best l
   unfolding with_key
   passed_by best l e = sym (ap (λ (b : Bool). if b then closer last best l.key else best) e)
 
-  pub looked_at : (best : Next) (l : Listed) (k : Key) (r : Next) → f l ≡ true → k ≡ l.key → r ≡ closer last best k → r ≡ with_key f last best l
+  pub looked_at : (best : Option Key) (l : Listed) (k : Key) (r : Option Key) → f l ≡ true → k ≡ l.key → r ≡ closer last best k → r ≡ with_key f last best l
   unfolding with_key
   looked_at best l k r e q d = d ∙ ap (closer last best) q ∙ sym (ap (λ (b : Bool). if b then closer last best l.key else best) e)
 
   -- of n things i are looked at, and the rest makes of `best` what all make of `start`
-  pub record Looked (n : ℕ) (e : ℕ → Listed) (start : Next) (best : Next) (i : ℕ) : Type 0 where
+  pub record Looked (n : ℕ) (e : ℕ → Listed) (start : Option Key) (best : Option Key) (i : ℕ) : Type 0 where
     pub within : i ≤ n
     pub rest : nearest last best (keep f (drop i (upto n e))) ≡ nearest last start (keep f (upto n e))
 
-  module _ (n : ℕ) (e : ℕ → Listed) (start : Next) where
+  module _ (n : ℕ) (e : ℕ → Listed) (start : Option Key) where
     pub none_looked : Looked n e start start 0
     none_looked = record { within = omega arith; rest = refl }
 
-    module _ (best : Next) (i : ℕ) (L : Looked n e start best i) where
-      pub one_looked : i < n → (x : Next) → x ≡ with_key f last best (e i) → Looked n e start x (i + 1)
+    module _ (best : Option Key) (i : ℕ) (L : Looked n e start best i) where
+      pub one_looked : i < n → (x : Option Key) → x ≡ with_key f last best (e i) → Looked n e start x (i + 1)
       one_looked l x d = record {
         within = omega arith;
         rest =
             let h : i < length (upto n e) = omega (arith, upto_length n e) in
             let next : drop i (upto n e) ≡ e i ∷ drop (i + 1) (upto n e) = rw (add-one i, drop-cons (upto n e) i (e i) h, upto_at n e (e i) i l) in
-            ap (λ (b : Next). nearest last b (keep f (drop (i + 1) (upto n e)))) d
+            ap (λ (b : Option Key). nearest last b (keep f (drop (i + 1) (upto n e)))) d
             ∙ sym (with_one best (e i) (drop (i + 1) (upto n e)))
             ∙ ap (λ (ls : List Listed). nearest last best (keep f ls)) (sym next)
             ∙ L.rest;
@@ -181,11 +179,11 @@ module _ (img : List ℕ) (size : length img ≡ image_length) (good : good_imag
   abbrev g : Listed → Bool
   g = lacks (decode img).table (decode_ask m).sender (decode_ask m).clock
 
-  pub next_lent : (last : Key) (r x : Next) → r ≡ nearest last Nothing (keep (lacks (cut img 8 8) asker (decode_clock (cut m 8 96))) (decode_dots (cut img 512 512)))
-      → x ≡ nearest last r (keep (lacks (cut img 8 8) asker (decode_clock (cut m 8 96))) (decode_dots (cut img 1024 512))) → x ≡ nearest last Nothing (lacking (decode img) (decode_ask m))
+  pub next_lent : (last : Key) (r x : Option Key) → r ≡ nearest last None (keep (lacks (cut img 8 8) asker (decode_clock (cut m 8 96))) (decode_dots (cut img 512 512)))
+      → x ≡ nearest last r (keep (lacks (cut img 8 8) asker (decode_clock (cut m 8 96))) (decode_dots (cut img 1024 512))) → x ≡ nearest last None (lacking (decode img) (decode_ask m))
   next_lent last r x d e =
-      e ∙ ap (λ (b : Next). nearest last b (keep f (decode_dots (cut img 1024 512)))) d
-      ∙ sym (two_lists f last Nothing (decode_dots (cut img 512 512)) (decode_dots (cut img 1024 512)))
-      ∙ ap₂ (λ (ls ms : List Listed). nearest last Nothing (keep f (ls ++ ms))) (own_list img) (foreign_list img)
-      ∙ (λ i. nearest last Nothing (keep (lacks (table_part img size i) (read i) (sym (clock_lent m) i)) (listed (decode img))))
-      ∙ ap (nearest last Nothing) (sym (lacking_is (decode img) (decode_ask m) (good_now img good)))
+      e ∙ ap (λ (b : Option Key). nearest last b (keep f (decode_dots (cut img 1024 512)))) d
+      ∙ sym (two_lists f last None (decode_dots (cut img 512 512)) (decode_dots (cut img 1024 512)))
+      ∙ ap₂ (λ (ls ms : List Listed). nearest last None (keep f (ls ++ ms))) (own_list img) (foreign_list img)
+      ∙ (λ i. nearest last None (keep (lacks (table_part img size i) (read i) (sym (clock_lent m) i)) (listed (decode img))))
+      ∙ ap (nearest last None) (sym (lacking_is (decode img) (decode_ask m) (good_now img good)))

@@ -27,12 +27,11 @@ use Rattle.laws.proofs.Sends.{sent_few}
 use Rattle.layout.specs.PointBlock.{form_1, encode_stored, decode_stored}
 use Rattle.layout.specs.Image.{encode_points}
 use Rattle.record_edits.specs.Written.{Written, point_block}
-use Rattle.replying.specs.declared.Next.{Next}
-use Rattle.replying.specs.declared.Next.TheVariants.{At, Nothing}
 use Rattle.replying.specs.Nearest.{nearest}
 use Rattle.replying.specs.Sent.{sent_keys, sent_points}
 use Rattle.replying.proofs.Choosing.{IsNext, chosen}
 use Rattle.replying.proofs.Lacking.{point_from_1}
+use Rattle.std.specs.Prelude.{Option, Some, None}
 
 -- ---- an ascending list, one by one
 
@@ -50,7 +49,7 @@ rest_ascends (x ∷ xs) ys t = rest_ascends xs ys (ascends_rest key_before x (xs
 
 module _ (all : List Key) (up : Ascends key_before all) where
   -- the first of the rest is the next one
-  next_first : (last k : Key) (rest : List Key) → Ascends key_before rest → ((v : Key) → (v ∈ rest) ↔ ((v ∈ all) × (key_before last v ≡ true))) → IsNext all last (At k) → (xs : List Key) × (rest ≡ k ∷ xs)
+  next_first : (last k : Key) (rest : List Key) → Ascends key_before rest → ((v : Key) → (v ∈ rest) ↔ ((v ∈ all) × (key_before last v ≡ true))) → IsNext all last (Some k) → (xs : List Key) × (rest ≡ k ∷ xs)
   next_first last k [] t h I = absurd (Memᴰ.not-nil ((h k).1 (I.0, I.1)))
   next_first last k (x ∷ xs) t h I = (xs, ap (λ (y : Key). y ∷ xs) same)
     where
@@ -63,7 +62,7 @@ module _ (all : List Key) (up : Ascends key_before all) where
     upward : Ascends key_before P.rest
     upward = rest_ascends P.done P.rest (subst (Ascends key_before) (sym P.parts) up)
 
-    module _ (k : Key) (I : IsNext all last (At k)) where
+    module _ (k : Key) (I : IsNext all last (Some k)) where
       left : (xs : List Key) × (P.rest ≡ k ∷ xs)
       left = next_first last k P.rest upward P.behind I
 
@@ -86,7 +85,7 @@ module _ (all : List Key) (up : Ascends key_before all) where
           in_rest : (v : Key) → v ∈ left.0 → v ∈ P.rest
           in_rest v m = subst (λ (l : List Key). v ∈ l) (sym left.1) (there m)
 
-    pub all_done : IsNext all last Nothing → P.done ≡ all
+    pub all_done : IsNext all last None → P.done ≡ all
     all_done I = sym (append-nil P.done) ∙ ap (λ (l : List Key). P.done ++ l) (sym (none P.rest (λ v m. (P.behind v).0 m))) ∙ P.parts
       where
         none : (xs : List Key) → ((v : Key) → v ∈ xs → (v ∈ all) × (key_before last v ≡ true)) → xs ≡ []
@@ -112,11 +111,11 @@ module _ (s : State) (a : Ask) where
   unfolding sent_keys
   sent_up = place_all_ascends key_before key_order found_keys [] refl
 
-  next_sent : (last : Key) (r : Next) → IsNext found_keys last r → IsNext (sent_keys s a) last r
-  next_sent last (At k) I = (in_sent k I.0, I.1, λ j m. I.2 j (sent_in j m))
-  next_sent last Nothing I = λ j m. I j (sent_in j m)
+  next_sent : (last : Key) (r : Option Key) → IsNext found_keys last r → IsNext (sent_keys s a) last r
+  next_sent last (Some k) I = (in_sent k I.0, I.1, λ j m. I.2 j (sent_in j m))
+  next_sent last None I = λ j m. I j (sent_in j m)
 
-  pub is_next : (last : Key) (r : Next) → r ≡ nearest last Nothing (lacking s a) → IsNext (sent_keys s a) last r
+  pub is_next : (last : Key) (r : Option Key) → r ≡ nearest last None (lacking s a) → IsNext (sent_keys s a) last r
   unfolding nearest
   is_next last r e = next_sent last r (subst (IsNext found_keys last) (sym e) (chosen last found_keys))
 
@@ -170,8 +169,8 @@ module _ (s : State) (a : Ask) where
       pub as_long : length out ≡ length before
       as_long = ap length S.written ∙ splice_length before 512 (512 * i) (bytes_of_keys S.so_far.done) (omega (arith, fits_still)) S.size
 
-      module _ (r : Next) (next : r ≡ nearest last Nothing (lacking s a)) where
-        pub ends : r ≡ Nothing → (i ≡ length (sent_points s a)) × (out ≡ splice before 512 (512 * length (sent_points s a)) (encode_points 1 (sent_points s a)))
+      module _ (r : Option Key) (next : r ≡ nearest last None (lacking s a)) where
+        pub ends : r ≡ None → (i ≡ length (sent_points s a)) × (out ≡ splice before 512 (512 * length (sent_points s a)) (encode_points 1 (sent_points s a)))
         ends e = (
           counted,
           S.written ∙ ap₂ (λ (n : ℕ) (ks : List Key). splice before 512 (512 * n) (bytes_of_keys ks)) counted finished,
@@ -183,8 +182,8 @@ module _ (s : State) (a : Ask) where
             counted : i ≡ length (sent_points s a)
             counted = sym S.so_far.count ∙ ap length finished ∙ sym (map_length (as_stored s) (sent_keys s a))
 
-        module _ (k : Key) (e : r ≡ At k) where
-          is_k : IsNext (sent_keys s a) last (At k)
+        module _ (k : Key) (e : r ≡ Some k) where
+          is_k : IsNext (sent_keys s a) last (Some k)
           is_k = subst (IsNext (sent_keys s a) last) e (is_next last r next)
 
           pub one_fits : i < 120

@@ -1,7 +1,7 @@
 // A reply, on a good image: the ask is judged, then the points that the asker lacks are written, and then the head.
 #![tactic(auto)]
 
-ghost use Rattle.std.specs.Prelude.{◌≡◌, true, ◌*◌, ◌≤◌, ◌<◌, length, ltb};
+ghost use Rattle.std.specs.Prelude.{◌≡◌, true, ◌*◌, ◌≤◌, ◌<◌, length, ltb, None};
 ghost use Rattle.numbers.specs.Words.{keep};
 ghost use Rattle.numbers.specs.Numbers.{Crew, same_controller};
 ghost use Rattle.refusal.specs.Refusal.{verdict_of};
@@ -14,13 +14,12 @@ ghost use Rattle.layout.specs.Image.{image_length, decode_dots, encode_points, d
 ghost use Rattle.layout.specs.Messages.{decode_ask, encode_reply};
 ghost use Rattle.layout.specs.Calls.{over};
 ghost use Rattle.dots.specs.Entries.{entry};
-ghost use Rattle.replying.specs.declared.Next.TheVariants.{Nothing};
 ghost use Rattle.replying.specs.Judged.{ask_judged};
 ghost use Rattle.replying.specs.Nearest.{all_crew, lacks, with_key, closer, nearest};
 ghost use Rattle.replying.specs.Sent.{sent_points, reply_of};
 
 use numbers::{Controller, Dot, Key, Point};
-use refusal::{Refusal, Verdict};
+use refusal::Refusal;
 use row::Row;
 
 // ---- judging, on the lent bytes alone
@@ -57,44 +56,36 @@ pub fn is_for_us(image: &[u8], message: &[u8]) -> bool
     ensures { result ≡ same_controller (decode_ask message.now).addressee (decode image.now).own }
 {
     let own = head::own_of(&image[0..512]);
-    let addressee = greeting::addressee_of(message);
-    addressee.0 == own.0
+    greeting::addressee_of(message) == own
 }
 
 // The first refusal from 3 on that applies to the ask.
-pub fn judge_ask(image: &[u8], message: &[u8]) -> Verdict
+pub fn judge_ask(image: &[u8], message: &[u8]) -> Result<(), Refusal>
     requires { (length image.now ≡ image_length) × (good_image image.now ≡ true) × (length message.now ≡ 512) }
     ensures { result ≡ verdict_of (ask_judged message.now (decode image.now) true) }
 {
     if !block::is_sealed(message) {
-        return Verdict::Refused(Refusal::WrongCheck);
+        return Err(Refusal::WrongCheck);
     }
     if !greeting::greeting_laid_out(message, 5, 0) {
-        return Verdict::Refused(Refusal::IllFormed);
+        return Err(Refusal::IllFormed);
     }
     if !greeting::ask_formed(message, &image[8..16]) {
-        return Verdict::Refused(Refusal::IllFormed);
+        return Err(Refusal::IllFormed);
     }
     if !exchange::other_peer(image, greeting::sender_of(message)) {
-        return Verdict::Refused(Refusal::NotPeer);
+        return Err(Refusal::NotPeer);
     }
     if !is_for_us(image, message) {
-        return Verdict::Refused(Refusal::NotPeer);
+        return Err(Refusal::NotPeer);
     }
     if ahead_of_us(image, &message[8..104]) {
-        return Verdict::Refused(Refusal::HistoryLost);
+        return Err(Refusal::HistoryLost);
     }
-    Verdict::Accepted
+    Ok(())
 }
 
 // ---- the points that the asker lacks, one after the other
-
-// The next point to be sent, or that there is none.
-#[derive(Clone, Copy)]
-pub enum Next {
-    At(Key),
-    Nothing,
-}
 
 // A listed dot that the asker's row lacks, of a job that it holds. Our own row has every listed dot, and its controller, who holds the job, is a
 // peer of all other holders.
@@ -109,19 +100,19 @@ fn lacks(table: &[u8], asker: Controller, rows: &[u8], d: Dot, k: Key) -> bool
 }
 
 // The nearer of two points behind the last one that was sent.
-fn closer(last: Key, best: Next, k: Key) -> Next
+fn closer(last: Key, best: Option<Key>, k: Key) -> Option<Key>
     ensures { result ≡ closer last best k }
 {
     if !last.before(k) {
         return best;
     }
     match best {
-        Next::Nothing => Next::At(k),
-        Next::At(b) => {
+        None => Some(k),
+        Some(b) => {
             if k.before(b) {
-                return Next::At(k);
+                return Some(k);
             }
-            Next::At(b)
+            Some(b)
         }
     }
 }
@@ -134,8 +125,8 @@ fn with_entry(
     asker: Controller,
     rows: &[u8],
     last: Key,
-    best: Next,
-) -> Next
+    best: Option<Key>,
+) -> Option<Key>
     requires { (length list.now ≡ 512) × (field list.now 4 2 ≤ 60) × (i < field list.now 4 2) × (all_crew (decode_dots list.now) ≡ true) × (length table.now ≡ 8) × Crew asker × (length rows.now ≡ 96) }
     ensures { result ≡ with_key (lacks table.now asker (decode_clock rows.now)) last best (entry list.now i) }
 {
@@ -153,8 +144,8 @@ fn smallest_after(
     asker: Controller,
     rows: &[u8],
     last: Key,
-    start: Next,
-) -> Next
+    start: Option<Key>,
+) -> Option<Key>
     requires { (length list.now ≡ 512) × (field list.now 4 2 ≤ 60) × (all_crew (decode_dots list.now) ≡ true) × (length table.now ≡ 8) × Crew asker × (length rows.now ≡ 96) }
     ensures { result ≡ nearest last start (keep (lacks table.now asker (decode_clock rows.now)) (decode_dots list.now)) }
 {
@@ -169,9 +160,9 @@ fn smallest_after(
 }
 
 // "each dot in our row n that the asker's row lacks is looked up in the lists": the first point behind the last one, over both lists.
-fn next_key(image: &[u8], message: &[u8], last: Key) -> Next
+fn next_key(image: &[u8], message: &[u8], last: Key) -> Option<Key>
     requires { (length image.now ≡ image_length) × (good_image image.now ≡ true) × (length message.now ≡ 512) × Crew (decode_ask message.now).sender }
-    ensures { result ≡ nearest last Nothing (lacking (decode image.now) (decode_ask message.now)) }
+    ensures { result ≡ nearest last None (lacking (decode image.now) (decode_ask message.now)) }
 {
     let asker = greeting::sender_of(message);
     let best = smallest_after(
@@ -180,7 +171,7 @@ fn next_key(image: &[u8], message: &[u8], last: Key) -> Next
         asker,
         &message[8..104],
         last,
-        Next::Nothing,
+        None,
     );
     smallest_after(
         &image[1024..1536],
@@ -217,8 +208,8 @@ fn write_points(image: &[u8], message: &[u8], out: &mut [u8]) -> u16
     let mut sent: usize = 0;
     loop {
         match next_key(image, message, last) {
-            Next::Nothing => return sent as u16,
-            Next::At(k) => {
+            None => return sent as u16,
+            Some(k) => {
                 let at = 512 + 512 * sent;
                 write_point(image, count, k, (1 + sent) as u16, &mut out[at..at + 512]);
                 last = k;

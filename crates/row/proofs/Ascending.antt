@@ -1,6 +1,6 @@
 -- Adds in ascending order, each against the limit of 64 bits, answer what the whole result answers. So code that adds one counter after
 -- another gives the answer of refusal 11, which is asked of a step's result "with no limit applied". Assumes nothing.
-use Rattle.std.specs.Prelude.{if◌then◌else◌}
+use Rattle.std.specs.Prelude.{if◌then◌else◌, Option, Some, None}
 use Prim.Native.Nat.{◌+◌, ◌≤◌, ◌<◌}
 use mathlib.Core.Path.{◌≡◌, refl}
 use mathlib.Core.Logic.{◌⊎◌, inl, inr, ◌↔◌, ⊎_elim}
@@ -14,24 +14,22 @@ use Rattle.numbers.specs.declared.Counter.{Counter}
 use Rattle.numbers.specs.Numbers.{counter}
 use Rattle.numbers.proofs.Tests.{by_test, never, ◌∈◌}
 use Rattle.row.specs.declared.Row.{Row}
-use Rattle.row.specs.declared.Added.{Added}
-use Rattle.row.specs.declared.Added.TheVariants.{Now, TooFar}
 use Rattle.row.specs.Row.{has, add, fits, add_up}
 use Rattle.row.proofs.Members.{same_number, member, not_next, Clear}
 use Rattle.row.proofs.Adding.{add_has, add_clear, add_all, add_all_has, Positive}
 use Rattle.row.proofs.Highest.{gap_far, add_fits}
 
 -- a row that fits, or that it is too far
-abbrev pub limited : Row → Added
-limited r = if fits r then Now r else TooFar
+abbrev pub limited : Row → Option Row
+limited r = if fits r then Some r else None
 
 -- goes on with the row, unless that was too far
-abbrev pub go_on : Added → (Row → Added) → Added
-go_on (Now r) f = f r
-go_on TooFar f = TooFar
+abbrev pub go_on : Option Row → (Row → Option Row) → Option Row
+go_on (Some r) f = f r
+go_on None f = None
 
-unfoldable pub add_each : Row → List Counter → Added
-add_each r [] = Now r
+unfoldable pub add_each : Row → List Counter → Option Row
+add_each r [] = Some r
 add_each r (c ∷ cs) = go_on (add_up r c) (λ q. add_each q cs)
 
 -- the list ascends, from c on

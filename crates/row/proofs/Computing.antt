@@ -16,13 +16,13 @@ use Rattle.numbers.specs.declared.Counter.{Counter}
 use Rattle.numbers.specs.Numbers.{last_counter}
 use Rattle.numbers.proofs.Tests.{by_test}
 use Rattle.row.specs.declared.Row.{Row}
-use Rattle.row.specs.declared.Added.TheVariants.{Now, TooFar}
 use Rattle.row.specs.Row.{has, bit, advance, advanced, add, unite, sound, add_up}
 use Rattle.row.proofs.Members.{parity}
 use Rattle.row.proofs.Advancing.{advance_even, advance_odd, advance_clear}
 use Rattle.row.proofs.Adding.{add_old, add_new, add_all}
 use Rattle.row.proofs.Highest.{small_fits, add_fits, add_sound, unite_sound, is_a_counter, sound_base, sound_clear}
 use Rattle.row.proofs.Ascending.{too_far}
+use Rattle.std.specs.Prelude.{Some, None}
 
 -- ---- the run of set low bits
 
@@ -91,11 +91,11 @@ module _ (r : Row) (c : Counter) where
       same : c.0 - (r.base + 1) ≡ c.0 - r.base - 1
       same = omega arith
 
-  pub add_up_old : c.0 ≤ r.base → r.bits < 2 ^ 64 → add_up r c ≡ Now r
+  pub add_up_old : c.0 ≤ r.base → r.bits < 2 ^ 64 → add_up r c ≡ Some r
   unfolding add_up
   add_up_old l small = rw (add_old r c l, small_fits r small)
 
-  pub add_up_far : sound r ≡ true → r.base < c.0 → 64 ≤ c.0 - r.base - 1 → add_up r c ≡ TooFar
+  pub add_up_far : sound r ≡ true → r.base < c.0 → 64 ≤ c.0 - r.base - 1 → add_up r c ≡ None
   unfolding add_up add_all
   add_up_far t l far = rw (too_far r c [] (sound_clear r t) (omega arith) tt)
 
@@ -107,9 +107,9 @@ module _ (r : Row) (c : Counter) where
     added : add r c ≡ advanced raw
     added = add_new r c (c.0 - r.base - 1) (omega arith) ∙ rw (one-mul, mod-eq_of_lt (pow-lt near))
 
-    pub add_up_new : r.bits < 2 ^ 64 → add_up r c ≡ Now (advanced raw)
+    pub add_up_new : r.bits < 2 ^ 64 → add_up r c ≡ Some (advanced raw)
     unfolding add_up
-    add_up_new small = rw (add_fits r c (small_fits r small) (omega arith) (omega arith)) (ap Now added)
+    add_up_new small = rw (add_fits r c (small_fits r small) (omega arith) (omega arith)) (ap Some added)
 
     pub raw_base : sound r ≡ true → c.0 ≤ last_counter → (advanced raw).base ≤ last_counter
     raw_base t h = rw added at (sound_base (add r c) (add_sound r c t (is_a_counter c (omega arith) h)))

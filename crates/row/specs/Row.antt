@@ -1,13 +1,11 @@
 -- A clock row: which counters of one controller were seen. Assumes nothing.
 -- "A row per controller: a base b (1..b all seen) and 64 bits, bit j standing for counter b+1+j."
 -- Here `bits` may be any number. That it is below 2 ^ 64 is what refusal 11 asks of a step's result, "with no limit applied".
-use Rattle.std.specs.Prelude.{ℕ, zero, suc, ◌+◌, ◌-◌, ◌/◌, ◌%◌, ◌^◌, ◌≤◌, max, ◌≡◌, Bool, true, false, ◌&&◌, ◌||◌, leb, ltb, eqb, if◌then◌else◌}
+use Rattle.std.specs.Prelude.{ℕ, zero, suc, ◌+◌, ◌-◌, ◌/◌, ◌%◌, ◌^◌, ◌≤◌, max, ◌≡◌, Bool, true, false, ◌&&◌, ◌||◌, leb, ltb, eqb, if◌then◌else◌, Option, Some, None}
 use Rattle.std.specs.Int.Bits.{bit_or}
 use Rattle.numbers.specs.declared.Counter.{Counter}
 use Rattle.numbers.specs.Numbers.{counter, last_counter}
 use Rattle.row.specs.declared.Row.{Row}
-use Rattle.row.specs.declared.Added.{Added}
-use Rattle.row.specs.declared.Added.TheVariants.{Now, TooFar}
 
 -- the row of a controller of which nothing was seen
 abbrev pub none_seen : Row
@@ -61,5 +59,5 @@ unfoldable pub sound : Row → Bool
 sound r = eqb (r.bits % 2) 0 && leb (highest r) last_counter
 
 -- the row with the counter c too, or that it is too far
-unfoldable pub add_up : Row → Counter → Added
-add_up r c = if fits (add r c) then Now (add r c) else TooFar
+unfoldable pub add_up : Row → Counter → Option Row
+add_up r c = if fits (add r c) then Some (add r c) else None

@@ -13,13 +13,6 @@ pub struct Row {
     pub bits: u64,
 }
 
-// What adding a counter answers: the new row, or that the counter is too far ahead (refusal 11).
-#[derive(Clone, Copy)]
-pub enum Added {
-    Now(Row),
-    TooFar,
-}
-
 impl Row {
     // The counter was seen.
     pub fn has(self, c: Counter) -> bool
@@ -34,8 +27,8 @@ impl Row {
         0 < n
     }
 
-    // The row with the counter too, or that it is too far for the row's 64 bits.
-    pub fn add(self, c: Counter) -> Added
+    // The row with the counter too, or none where it is too far for the row's 64 bits (refusal 11).
+    pub fn add(self, c: Counter) -> Option<Row>
         requires { sound self ≡ true }
         ensures { result ≡ add_up self c }
     {
@@ -43,13 +36,13 @@ impl Row {
         let bits = self.bits;
         let n = c.0;
         if n <= base {
-            return Added::Now(self);
+            return Some(self);
         }
         let j = n - base - 1;
         if 64 <= j {
-            return Added::TooFar;
+            return None;
         }
-        Added::Now(advanced_row(base, bits | (1u64 << j)))
+        Some(advanced_row(base, bits | (1u64 << j)))
     }
 
     // The row with all counters of the other one too: the bits of the lower base come to stand at the higher one.

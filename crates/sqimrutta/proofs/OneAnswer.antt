@@ -2,8 +2,8 @@
 use Prim.Native.Nat.{ℕ}
 use mathlib.Core.Path.{◌≡◌, sym, ◌∙◌}
 use mathlib.Core.List.{List}
-use Rattle.refusal.specs.declared.Verdict.{Verdict}
 use Rattle.opening.specs.CallContracts.{Starts, Reads, Writes, Deletes, TakesIn, Asks, Replies, Repairs, Strips}
+use Rattle.refusal.specs.Refusal.{Verdict}
 
 -- two things that are both a third are one
 module _ {A B C : Type 0} {a r s : A} {b x y : B} {c u v : C} where

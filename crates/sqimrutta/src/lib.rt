@@ -4,14 +4,33 @@
 ghost use Rattle.std.specs.Prelude.{◌≡◌, if◌then◌else◌};
 ghost use Rattle.refusal.specs.Refusal.{answer_number};
 ghost use Rattle.layout.specs.Image.{good_image};
-ghost use Rattle.opening.specs.CallContracts.{Starts, Reads, Writes, Deletes, TakesIn, Asks, Replies, Repairs, Strips};
+ghost use Rattle.opening.specs.CallContracts.{without_count, count_in, Starts, Reads, Writes, Deletes, TakesIn, Asks, Replies, Repairs, Strips};
+
+use refusal::{Refusal, answer_number};
+
+// The number of the answer, and the count, which is 0 where the call is refused.
+fn told(answer: Result<u32, Refusal>, count: &mut u32) -> u32
+    ensures number { result ≡ answer_number (without_count answer) }
+    ensures count { count.new ≡ count_in answer }
+{
+    match answer {
+        Ok(n) => {
+            *count = n;
+            0
+        }
+        Err(r) => {
+            *count = 0;
+            u32::from(r)
+        }
+    }
+}
 
 // "An accepted call returns 0", a refused one the refusal's number.
 #[unsafe(no_mangle)]
 pub extern "C" fn sqimrutta_start(image: &mut [u8], number: u8, table: &[u8]) -> u32
     ensures { Starts answer_number image.old number table.now result image.new }
 {
-    starting::start(image, number, table).number()
+    answer_number(starting::start(image, number, table))
 }
 
 // Whether these bytes are a good image: 1 or 0, on any bytes of any length.
@@ -29,7 +48,7 @@ pub extern "C" fn sqimrutta_good(image: &[u8]) -> u32
 pub extern "C" fn sqimrutta_read(image: &[u8], job: u8, point: u16, out: &mut [u8]) -> u32
     ensures { Reads answer_number image.now job point out.old result out.new }
 {
-    own_calls::read(image, job, point, out).number()
+    answer_number(own_calls::read(image, job, point, out))
 }
 
 #[unsafe(no_mangle)]
@@ -43,7 +62,7 @@ pub extern "C" fn sqimrutta_write(
 ) -> u32
     ensures { Writes answer_number image.old job point value.now context.now out.old result image.new out.new }
 {
-    own_calls::write(image, job, point, value, context, out).number()
+    answer_number(own_calls::write(image, job, point, value, context, out))
 }
 
 #[unsafe(no_mangle)]
@@ -56,21 +75,21 @@ pub extern "C" fn sqimrutta_delete(
 ) -> u32
     ensures { Deletes answer_number image.old job point context.now out.old result image.new out.new }
 {
-    own_calls::delete(image, job, point, context, out).number()
+    answer_number(own_calls::delete(image, job, point, context, out))
 }
 
 #[unsafe(no_mangle)]
 pub extern "C" fn sqimrutta_take_in(image: &mut [u8], message: &[u8]) -> u32
     ensures { TakesIn answer_number image.old message.now result image.new }
 {
-    message_calls::take_in(image, message).number()
+    answer_number(message_calls::take_in(image, message))
 }
 
 #[unsafe(no_mangle)]
 pub extern "C" fn sqimrutta_ask(image: &[u8], to: u8, out: &mut [u8]) -> u32
     ensures { Asks answer_number image.now to out.old result out.new }
 {
-    message_calls::ask(image, to, out).number()
+    answer_number(message_calls::ask(image, to, out))
 }
 
 #[unsafe(no_mangle)]
@@ -82,25 +101,19 @@ pub extern "C" fn sqimrutta_reply(
 ) -> u32
     ensures { Replies answer_number image.now message.now out.old result out.new count.new }
 {
-    let replied = message_calls::reply(image, message, out);
-    *count = replied.count;
-    let v = replied.verdict;
-    v.number()
+    told(message_calls::reply(image, message, out), count)
 }
 
 #[unsafe(no_mangle)]
 pub extern "C" fn sqimrutta_repair(image: &mut [u8], message: &[u8]) -> u32
     ensures { Repairs answer_number image.old message.now result image.new }
 {
-    message_calls::repair(image, message).number()
+    answer_number(message_calls::repair(image, message))
 }
 
 #[unsafe(no_mangle)]
 pub extern "C" fn sqimrutta_strip_pass(image: &mut [u8], count: &mut u32) -> u32
     ensures { Strips answer_number image.old result image.new count.new }
 {
-    let t = own_calls::strip_pass(image);
-    *count = t.count;
-    let v = t.verdict;
-    v.number()
+    told(own_calls::strip_pass(image), count)
 }

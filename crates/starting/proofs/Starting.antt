@@ -7,17 +7,17 @@ use lib.ListN.{length}
 use lib.Dec.{leb, eqb}
 use borrow.Author.Tests.{eq-eqb, ne_eqb, le-leb, lt-leb}
 use Rattle.numbers.specs.Numbers.{controller, is_controller}
-use Rattle.refusal.specs.declared.Verdict.TheVariants.{Accepted, Refused}
 use Rattle.refusal.specs.declared.Refusal.{Refusal}
 use Rattle.refusal.specs.declared.Refusal.TheVariants.{WrongLength, OutOfRange}
 use Rattle.refusal.specs.Refusal.{refuse◌when◌else◌}
 use Rattle.meaning.specs.OwnSteps.{fresh, start}
 use Rattle.layout.specs.Image.{image_length, encode}
 use Rattle.layout.specs.Calls.{After, afterwards, whole_image, start_call}
+use Rattle.std.specs.Prelude.{Ok, Err}
 
 -- refused with r, and all as it was
 abbrev leaves : Refusal → List ℕ → After
-leaves r img = record { verdict = Refused r; image = img; out = []; count = 0 }
+leaves r img = record { verdict = Err r; image = img; out = []; count = 0 }
 
 module _ (img : List ℕ) (n : ℕ) (t : List ℕ) where
   wrong : (whole_image img && eqb (length t) 8) ≡ false → start_call img n t ≡ leaves WrongLength img
@@ -46,6 +46,6 @@ module _ (img : List ℕ) (n : ℕ) (t : List ℕ) where
     unfolding is_controller
     number_large g h = no_number (ap (λ (b : Bool). b && leb n 8) (le-leb 1 n g) ∙ lt-leb n 8 h)
 
-    pub started : 1 ≤ n → n ≤ 8 → start_call img n t ≡ record { verdict = Accepted; image = encode (fresh (controller n) t); out = []; count = 0 }
+    pub started : 1 ≤ n → n ≤ 8 → start_call img n t ≡ record { verdict = Ok tt; image = encode (fresh (controller n) t); out = []; count = 0 }
     unfolding start_call afterwards refuse◌when◌else◌ start is_controller
     started g h = rw (right, le-leb 1 n g, le-leb n 8 h)

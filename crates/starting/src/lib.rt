@@ -7,7 +7,7 @@ ghost use Rattle.meaning.specs.OwnSteps.{fresh};
 ghost use Rattle.layout.specs.Image.{image_length, head_of, encode_head, encode_dots, encode};
 ghost use Rattle.opening.specs.CallContracts.{Starts};
 
-use refusal::{Refusal, Verdict};
+use refusal::Refusal;
 
 // A fresh head: the own number and the table, and nothing seen.
 fn write_fresh_head(b: &mut [u8], number: u8, table: &[u8])
@@ -45,21 +45,21 @@ fn write_fresh(image: &mut [u8], number: u8, table: &[u8])
     block::clear(image, 1536, 34304);
 }
 
-pub fn start(image: &mut [u8], number: u8, table: &[u8]) -> Verdict
+pub fn start(image: &mut [u8], number: u8, table: &[u8]) -> Result<(), Refusal>
     ensures { Starts (λ v. v) image.old number table.now result image.new }
 {
     if image.len() != 34304 {
-        return Verdict::Refused(Refusal::WrongLength);
+        return Err(Refusal::WrongLength);
     }
     if table.len() != 8 {
-        return Verdict::Refused(Refusal::WrongLength);
+        return Err(Refusal::WrongLength);
     }
     if number < 1 {
-        return Verdict::Refused(Refusal::OutOfRange);
+        return Err(Refusal::OutOfRange);
     }
     if 8 < number {
-        return Verdict::Refused(Refusal::OutOfRange);
+        return Err(Refusal::OutOfRange);
     }
     write_fresh(image, number, table);
-    Verdict::Accepted
+    Ok(())
 }

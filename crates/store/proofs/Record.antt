@@ -26,7 +26,6 @@ use Rattle.meaning.specs.Object.{Object, no_object}
 use Rattle.meaning.specs.State.{Stored, look_up}
 use Rattle.layout.specs.PointBlock.{form_1, unsent, decode_context, decode_point}
 use Rattle.layout.specs.Image.{image_length, decode, good_image}
-use Rattle.dots.specs.declared.Found.TheVariants.{At, Before}
 use Rattle.record.specs.Crewed.{crewed}
 use Rattle.record_edits.specs.Written.{Written, lay_point, point_block}
 use Rattle.record_edits.proofs.Edits.{count_is, few_versions}
@@ -35,14 +34,15 @@ use Rattle.image.proofs.Placing.{look_up_at}
 use Rattle.store.proofs.Lent.{good_now, good_ascends, good_canonical}
 use Rattle.store.proofs.Stripped.{says, record_size}
 use Rattle.store.specs.HasRecord.{has_record}
+use Rattle.std.specs.Prelude.{Ok, Err}
 
 -- ---- whether there is a record
 
-pub record_there : (k : Key) (ps : List Stored) (i : ℕ) → PointIn ps k (At i) → has_record k ps ≡ true
+pub record_there : (k : Key) (ps : List Stored) (i : ℕ) → PointIn ps k (Ok i) → has_record k ps ≡ true
 unfolding has_record
 record_there k ps i at = in_some (λ p. same_key k p.key) ps (get_or_in ps i no_point at.0) (ap (same_key k) at.1 ∙ key_itself k)
 
-pub record_none : (k : Key) (ps : List Stored) (i : ℕ) → PointIn ps k (Before i) → has_record k ps ≡ false
+pub record_none : (k : Key) (ps : List Stored) (i : ℕ) → PointIn ps k (Err i) → has_record k ps ≡ false
 unfolding has_record
 record_none k ps i new =
     by_test (some? (λ p. same_key k p.key) ps)
@@ -80,7 +80,7 @@ module _ (img : List ℕ) (k : Key) (none : has_record k (decode img).points ≡
 
 -- ---- the record that was found
 
-module _ (img : List ℕ) (small : Bytes img) (size : length img ≡ image_length) (good : good_image img ≡ true) (k : Key) (i : ℕ) (at : PointIn (decode img).points k (At i)) where
+module _ (img : List ℕ) (small : Bytes img) (size : length img ≡ image_length) (good : good_image img ≡ true) (k : Key) (i : ℕ) (at : PointIn (decode img).points k (Ok i)) where
   abbrev lent : List ℕ
   lent = take (512 * (3 + i) + 512 - 512 * (3 + i)) (drop (512 * (3 + i)) img)
 

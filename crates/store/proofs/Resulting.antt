@@ -1,5 +1,5 @@
 -- A result in a block of its own takes its record's place. Assumes nothing.
-use Rattle.std.specs.Prelude.{if◌then◌else◌}
+use Rattle.std.specs.Prelude.{if◌then◌else◌, ℕ, Result, Ok, Err}
 use Prim.Native.Nat.{ℕ, ◌+◌, ◌≤◌, ◌<◌}
 use mathlib.Core.Path.{◌≡◌, refl, ap, ap₂, sym, ◌∙◌, subst}
 use mathlib.Core.Bool.{Bool, true, false}
@@ -19,8 +19,6 @@ use Rattle.meaning.specs.State.{Stored, State, stored_before}
 use Rattle.meaning.specs.Settle.{most_points, without, stripped, put}
 use Rattle.layout.specs.PointBlock.{form_1, decode_point, decode_stored}
 use Rattle.layout.specs.Image.{image_length, decode}
-use Rattle.dots.specs.declared.Found.{Found}
-use Rattle.dots.specs.declared.Found.TheVariants.{At, Before}
 use Rattle.image.specs.Apart.{point_at}
 use Rattle.image.specs.Places.{no_point, PointIn}
 use Rattle.image.proofs.Placing.{place_before, without_before, place_at, without_at}
@@ -82,7 +80,7 @@ module _ (k : Clock) (ps : List Stored) (r : Stored) where
   abbrev to_go : Bool
   to_go = gone (strip k r.object)
 
-  pub put_where_stored : (i : ℕ) → ascends? stored_before ps ≡ true → PointIn ps r.key (At i) → restored k (put_at ps i r) i ≡ put k ps r
+  pub put_where_stored : (i : ℕ) → ascends? stored_before ps ≡ true → PointIn ps r.key (Ok i) → restored k (put_at ps i r) i ≡ put k ps r
   unfolding put
   put_where_stored i up at =
       ap (λ (q : Stored). if gone (strip k q.object) then remove_at (put_at ps i r) i else put_at (put_at ps i r) i (stripped k q)) (place_here ps i no_point (omega (arith, at.0)) 1 r [])
@@ -90,7 +88,7 @@ module _ (k : Clock) (ps : List Stored) (r : Stored) where
       (splice_again ps i 1 (r ∷ []) (omega (arith, at.0)) refl [] ∙ sym (without_at r.key ps i up at))
       (splice_again ps i 1 (r ∷ []) (omega (arith, at.0)) refl (stripped k r ∷ []) ∙ sym (place_at (stripped k r) ps i up at))
 
-  module _ (i : ℕ) (new : PointIn ps r.key (Before i)) where
+  module _ (i : ℕ) (new : PointIn ps r.key (Err i)) where
     pub put_where_new : gone (strip k r.object) ≡ false → insert_at ps i (stripped k r) ≡ put k ps r
     unfolding put
     put_where_new g = sym (ap (λ (b : Bool). if b then without r.key ps else place stored_before (stripped k r) ps) g ∙ place_before (stripped k r) ps i new)
@@ -108,11 +106,11 @@ module _ (k : Clock) (ps : List Stored) (r : Stored) where
 
 -- ---- what the search says of the stored points
 
-module _ (img : List ℕ) (small : Bytes img) (size : length img ≡ image_length) (canonical : Canonical img) (n : ℕ) (count : n ≡ length (decode img).points) (key : Key) (f : Found) (found : PointIn (upto n (point_at img)) key f) where
-  pub found_is : (g : Found) → f ≡ g → PointIn (decode img).points key g
+module _ (img : List ℕ) (small : Bytes img) (size : length img ≡ image_length) (canonical : Canonical img) (n : ℕ) (count : n ≡ length (decode img).points) (key : Key) (f : Result ℕ ℕ) (found : PointIn (upto n (point_at img)) key f) where
+  pub found_is : (g : Result ℕ ℕ) → f ≡ g → PointIn (decode img).points key g
   found_is g q = subst (PointIn (decode img).points key) q (subst (λ (qs : List Stored). PointIn qs key f) (points_listed img small size canonical n count) found)
 
-  pub result_found : (b : List ℕ) → key ≡ (decode_point form_1 b).key → (g : Found) → f ≡ g → PointIn (decode img).points (decode_stored form_1 b).key g
+  pub result_found : (b : List ℕ) → key ≡ (decode_point form_1 b).key → (g : Result ℕ ℕ) → f ≡ g → PointIn (decode img).points (decode_stored form_1 b).key g
   unfolding decode_stored
   result_found b is g q = subst (λ (x : Key). PointIn (decode img).points x g) is (found_is g q)
 

@@ -16,7 +16,6 @@ ghost use Rattle.image.specs.Places.{no_point};
 ghost use Rattle.image_edits.specs.Edits.{Canonical, with_points};
 ghost use Rattle.store.specs.Restored.{restored};
 
-use dots::Found;
 
 // The i-th record is the point of the block b.
 pub fn write_record(image: &mut [u8], i: usize, b: &[u8])
@@ -84,8 +83,8 @@ pub fn put_result(image: &mut [u8], count: usize, b: &[u8], rows: &[u8])
     ensures { (decode image.new ≡ with_points (decode image.old) (put (decode_clock rows.now) (decode image.old).points (decode_stored form_1 b.now))) × Canonical image.new }
 {
     match image::find_point(image, count, record::key_of(b)) {
-        Found::At(i) => put_stored(image, count, i, b, rows),
-        Found::Before(i) => {
+        Ok(i) => put_stored(image, count, i, b, rows),
+        Err(i) => {
             if !object::goes(b, rows) {
                 put_new(image, count, i, b, rows);
             }

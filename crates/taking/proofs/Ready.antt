@@ -11,7 +11,6 @@ use Rattle.numbers.specs.Numbers.{counter, is_controller}
 use Rattle.numbers.proofs.Tests.{and_left}
 use Rattle.numbers.proofs.Lists.{clause, map_length}
 use Rattle.block.proofs.Numbers.{Bytes}
-use Rattle.refusal.specs.declared.Verdict.TheVariants.{Accepted}
 use Rattle.refusal.specs.declared.Refusal.TheVariants.{RowTooFar}
 use Rattle.refusal.specs.Refusal.{verdict_of}
 use Rattle.row.specs.Row.{fits, sound}
@@ -40,10 +39,11 @@ use Rattle.taking.specs.Taken.{result_judged, taken, left_by}
 use Rattle.joining.proofs.May.{may_merge}
 use Rattle.taking.proofs.Steps.{far, passed, settle_refused}
 use Rattle.taking.proofs.OfOne.{result_is, theirs_is, clock_is}
+use Rattle.std.specs.Prelude.{Ok}
 
 -- ---- what may be merged
 
-module _ (s : State) (G : Good s) (m here there : List ℕ) (T : Takable s m here there) (c : Clock) (ok : verdict_of (result_judged s c (result_of s m there) true) ≡ Accepted) where
+module _ (s : State) (G : Good s) (m here there : List ℕ) (T : Takable s m here there) (c : Clock) (ok : verdict_of (result_judged s c (result_of s m there) true) ≡ Ok tt) where
   pub mergeable : Mergeable (local s (key_in m)).versions m here there
   mergeable = may_merge s G m here there T (passed s c (result_of s m there) ok).0
 
@@ -52,7 +52,7 @@ module _ (s : State) (G : Good s) (m here there : List ℕ) (T : Takable s m her
 
 -- ---- what was judged may be taken
 
-module _ (m : List ℕ) (small : Bytes m) (size : length m ≡ 512) (s : State) (ok : verdict_of (message_judged m s true) ≡ Accepted) where
+module _ (m : List ℕ) (small : Bytes m) (size : length m ≡ 512) (s : State) (ok : verdict_of (message_judged m s true) ≡ Ok tt) where
   F : MessageFacts m s
   F = judged_facts m s ok
 
@@ -94,7 +94,7 @@ unfolding numbers_of
 as_counters [] = refl
 as_counters (e ∷ c) = λ i. e ∷ as_counters c i
 
-module _ (s : State) (G : Good s) (m : List ℕ) (small : Bytes m) (size : length m ≡ 512) (ok : verdict_of (message_judged m s true) ≡ Accepted) where
+module _ (s : State) (G : Good s) (m : List ℕ) (small : Bytes m) (size : length m ≡ 512) (ok : verdict_of (message_judged m s true) ≡ Ok tt) where
   there₀ : List ℕ
   there₀ = numbers_of (decode_point form_1 m).object.context
 

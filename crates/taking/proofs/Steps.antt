@@ -6,7 +6,6 @@ use mathlib.Core.List.{List, [], ◌∷◌}
 use lib.ListN.{length}
 use lib.Dec.{ltb}
 use borrow.Author.Tests.{ltb-false}
-use Rattle.refusal.specs.declared.Verdict.TheVariants.{Accepted, Refused}
 use Rattle.refusal.specs.declared.Refusal.{Refusal}
 use Rattle.refusal.specs.declared.Refusal.TheVariants.{RowTooFar, TooManyVersions, TooManyPoints}
 use Rattle.refusal.specs.Refusal.{Answer, refused, accepted, refuse◌when◌else◌, verdict_of}
@@ -20,30 +19,31 @@ use Rattle.layout.specs.Image.{encode}
 use Rattle.layout.specs.Calls.{Left, afterwards}
 use Rattle.store.proofs.Untouched.{untouched}
 use Rattle.taking.specs.Taken.{result_judged, left_by}
+use Rattle.std.specs.Prelude.{Ok, Err}
 
 -- ---- rows 11 to 13, row by row
 
 module _ (s : State) (c : Clock) (r : Stored) where
-  pub far : every_row fits c ≡ false → Refused RowTooFar ≡ verdict_of (result_judged s c r true)
+  pub far : every_row fits c ≡ false → Err RowTooFar ≡ verdict_of (result_judged s c r true)
   unfolding result_judged refuse◌when◌else◌
   far h = sym (rw h)
 
   module _ (fit : every_row fits c ≡ true) where
-    pub many_versions : ltb most_versions (length r.object.versions) ≡ true → Refused TooManyVersions ≡ verdict_of (result_judged s c r true)
+    pub many_versions : ltb most_versions (length r.object.versions) ≡ true → Err TooManyVersions ≡ verdict_of (result_judged s c r true)
     unfolding result_judged refuse◌when◌else◌
     many_versions h = sym (rw (fit, h))
 
     module _ (few : ltb most_versions (length r.object.versions) ≡ false) where
-      pub many_points : ltb most_points (length (put c s.points r)) ≡ true → Refused TooManyPoints ≡ verdict_of (result_judged s c r true)
+      pub many_points : ltb most_points (length (put c s.points r)) ≡ true → Err TooManyPoints ≡ verdict_of (result_judged s c r true)
       unfolding result_judged refuse◌when◌else◌
       many_points h = sym (rw (fit, few, h))
 
-      pub may_be_put : ltb most_points (length (put c s.points r)) ≡ false → Accepted ≡ verdict_of (result_judged s c r true)
+      pub may_be_put : ltb most_points (length (put c s.points r)) ≡ false → (Ok tt) ≡ verdict_of (result_judged s c r true)
       unfolding result_judged refuse◌when◌else◌
       may_be_put h = sym (rw (fit, few, h))
 
   -- an accepted one passed them
-  pub passed : verdict_of (result_judged s c r true) ≡ Accepted → (length r.object.versions ≤ most_versions) × (length (put c s.points r) ≤ most_points)
+  pub passed : verdict_of (result_judged s c r true) ≡ Ok tt → (length r.object.versions ≤ most_versions) × (length (put c s.points r) ≤ most_points)
   unfolding result_judged
   passed e =
       let a = (accepted_with (result_judged s c r true) e).1 in
@@ -70,12 +70,12 @@ module _ (s : State) (c : Clock) (r : Stored) where
     settles : settle s k (r ∷ []) ≡ then (result_judged s c r true) (accepted (settled s k (r ∷ [])))
     settles = settle_is ∙ ap (λ (z : Clock). then (result_judged s z r true) (accepted (settled s k (r ∷ [])))) is
 
-    pub settle_refused : (img : List ℕ) (q : Refusal) → verdict_of (result_judged s c r true) ≡ Refused q → afterwards img [] (left_by (settle s k (r ∷ []))) ≡ untouched q img []
+    pub settle_refused : (img : List ℕ) (q : Refusal) → verdict_of (result_judged s c r true) ≡ Err q → afterwards img [] (left_by (settle s k (r ∷ []))) ≡ untouched q img []
     unfolding afterwards
     settle_refused img q e = ap (λ (a : Answer State). afterwards img [] (left_by a)) (settles ∙ by_refusal (accepted (settled s k (r ∷ []))) (result_judged s c r true) q e)
 
-    pub settle_made : (img : List ℕ) → verdict_of (result_judged s c r true) ≡ Accepted
-        → afterwards img [] (left_by (settle s k (r ∷ []))) ≡ record { verdict = Accepted; image = encode (settled s k (r ∷ [])); out = []; count = 0 }
+    pub settle_made : (img : List ℕ) → verdict_of (result_judged s c r true) ≡ Ok tt
+        → afterwards img [] (left_by (settle s k (r ∷ []))) ≡ record { verdict = Ok tt; image = encode (settled s k (r ∷ [])); out = []; count = 0 }
     unfolding afterwards
     settle_made img e = ap (λ (a : Answer State). afterwards img [] (left_by a)) (settles ∙ by_none (accepted (settled s k (r ∷ []))) (result_judged s c r true) e)
 

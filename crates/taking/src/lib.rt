@@ -2,10 +2,9 @@
 // `here` is the local one, filled, and `there` the message's.
 #![tactic(auto)]
 
-ghost use Rattle.std.specs.Prelude.{◌≡◌, true, [], ◌∷◌, ◌<◌, length};
+ghost use Rattle.std.specs.Prelude.{◌≡◌, true, [], ◌∷◌, ◌<◌, length, Ok};
 ghost use Rattle.numbers.specs.Words.{map};
 ghost use Rattle.numbers.specs.Numbers.{counter};
-ghost use Rattle.refusal.specs.declared.Verdict.TheVariants.{Accepted};
 ghost use Rattle.refusal.specs.Refusal.{verdict_of};
 ghost use Rattle.row.specs.Row.{fits};
 ghost use Rattle.meaning.specs.Clock.{every_row};
@@ -20,7 +19,7 @@ ghost use Rattle.checking.specs.Judged.{message_judged};
 ghost use Rattle.weighing.specs.Weighed.{key_in, Takable, result_of};
 ghost use Rattle.taking.specs.Taken.{result_judged, taken, left_by, heard};
 
-use refusal::{Refusal, Verdict};
+use refusal::Refusal;
 
 // ---- judging the result: 12 and 13
 
@@ -32,21 +31,21 @@ fn judge_point(
     here: &[u32],
     there: &[u32],
     rows: &[u8],
-) -> Verdict
+) -> Result<(), Refusal>
     requires { (length image.now ≡ image_length) × (good_image image.now ≡ true) × (count ≡ length (decode image.now).points) × Takable (decode image.now) m.now here.now there.now × (length rows.now ≡ 96)
         × (every_row fits (decode_clock rows.now) ≡ true) }
     ensures { result ≡ verdict_of (result_judged (decode image.now) (decode_clock rows.now) (result_of (decode image.now) m.now there.now) true) }
 {
     if weighing::too_many(image, count, m, here, there) {
-        return Verdict::Refused(Refusal::TooManyVersions);
+        return Err(Refusal::TooManyVersions);
     }
     if count < 64 {
-        return Verdict::Accepted;
+        return Ok(());
     }
     if weighing::needs_place(image, count, m, here, there, rows) {
-        return Verdict::Refused(Refusal::TooManyPoints);
+        return Err(Refusal::TooManyPoints);
     }
-    Verdict::Accepted
+    Ok(())
 }
 
 // A message's point that was judged: its dots are listed, its record is put, and the rows are the new ones. The local object is filled with the
@@ -56,7 +55,7 @@ fn put_taken(image: &mut [u8], count: usize, m: &[u8], here: &[u32], there: &[u3
     requires { (length image.old ≡ image_length) × (good_image image.old ≡ true) × (count ≡ length (decode image.old).points) × Takable (decode image.old) m.now here.now there.now × (length rows.now ≡ 96)
         × (map counter there.now ≡ (decode_point form_1 m.now).object.context)
         × (decode_clock rows.now ≡ with_arrivals (decode image.old) (decode image.old).clock (points_in m.now))
-        × (verdict_of (result_judged (decode image.old) (decode_clock rows.now) (result_of (decode image.old) m.now there.now) true) ≡ Accepted) }
+        × (verdict_of (result_judged (decode image.old) (decode_clock rows.now) (result_of (decode image.old) m.now there.now) true) ≡ Ok tt) }
     ensures { image.new ≡ encode (settled (decode image.old) (decode image.old).clock (result_of (decode image.old) m.now there.now ∷ [])) }
 {
     noting::list_new(image, count, m);
@@ -74,25 +73,21 @@ fn take_in_with(
     here: &[u32],
     there: &[u32],
     rows: &[u8],
-) -> Verdict
-    requires { (length image.old ≡ image_length) × (good_image image.old ≡ true) × (count ≡ length (decode image.old).points) × (length m.now ≡ 512) × (verdict_of (message_judged m.now (decode image.old) true) ≡ Accepted)
+) -> Result<(), Refusal>
+    requires { (length image.old ≡ image_length) × (good_image image.old ≡ true) × (count ≡ length (decode image.old).points) × (length m.now ≡ 512) × (verdict_of (message_judged m.now (decode image.old) true) ≡ Ok tt)
         × (length rows.now ≡ 96) × (decode_clock rows.now ≡ with_arrivals (decode image.old) (decode image.old).clock (points_in m.now)) × (every_row fits (decode_clock rows.now) ≡ true)
         × (length here.now ≡ 8) × (map counter here.now ≡ (local (decode image.old) (key_in m.now)).context) × (length there.now ≡ 8) × (map counter there.now ≡ (decode_point form_1 m.now).object.context) }
     ensures { (result ≡ (afterwards image.old [] (left_by (settle (decode image.old) (decode image.old).clock (taken (decode image.old) m.now ∷ [])))).verdict)
         × (image.new ≡ (afterwards image.old [] (left_by (settle (decode image.old) (decode image.old).clock (taken (decode image.old) m.now ∷ [])))).image) }
 {
-    match judge_point(image, count, m, here, there, rows) {
-        Verdict::Refused(r) => Verdict::Refused(r),
-        Verdict::Accepted => {
-            put_taken(image, count, m, here, there, rows);
-            Verdict::Accepted
-        }
-    }
+    judge_point(image, count, m, here, there, rows)?;
+    put_taken(image, count, m, here, there, rows);
+    Ok(())
 }
 
 // The contexts, and then the rest. The rows have taken what arrives.
-fn take_in_entered(image: &mut [u8], count: usize, m: &[u8], rows: &[u8]) -> Verdict
-    requires { (length image.old ≡ image_length) × (good_image image.old ≡ true) × (count ≡ length (decode image.old).points) × (length m.now ≡ 512) × (verdict_of (message_judged m.now (decode image.old) true) ≡ Accepted)
+fn take_in_entered(image: &mut [u8], count: usize, m: &[u8], rows: &[u8]) -> Result<(), Refusal>
+    requires { (length image.old ≡ image_length) × (good_image image.old ≡ true) × (count ≡ length (decode image.old).points) × (length m.now ≡ 512) × (verdict_of (message_judged m.now (decode image.old) true) ≡ Ok tt)
         × (length rows.now ≡ 96) × (decode_clock rows.now ≡ with_arrivals (decode image.old) (decode image.old).clock (points_in m.now)) × (every_row fits (decode_clock rows.now) ≡ true) }
     ensures { (result ≡ (afterwards image.old [] (left_by (settle (decode image.old) (decode image.old).clock (taken (decode image.old) m.now ∷ [])))).verdict)
         × (image.new ≡ (afterwards image.old [] (left_by (settle (decode image.old) (decode image.old).clock (taken (decode image.old) m.now ∷ [])))).image) }
@@ -105,8 +100,8 @@ fn take_in_entered(image: &mut [u8], count: usize, m: &[u8], rows: &[u8]) -> Ver
 }
 
 // 11, and then the rest.
-fn take_in_checked(image: &mut [u8], m: &[u8]) -> Verdict
-    requires { (length image.old ≡ image_length) × (good_image image.old ≡ true) × (length m.now ≡ 512) × (verdict_of (message_judged m.now (decode image.old) true) ≡ Accepted) }
+fn take_in_checked(image: &mut [u8], m: &[u8]) -> Result<(), Refusal>
+    requires { (length image.old ≡ image_length) × (good_image image.old ≡ true) × (length m.now ≡ 512) × (verdict_of (message_judged m.now (decode image.old) true) ≡ Ok tt) }
     ensures { (result ≡ (afterwards image.old [] (left_by (settle (decode image.old) (decode image.old).clock (taken (decode image.old) m.now ∷ [])))).verdict)
         × (image.new ≡ (afterwards image.old [] (left_by (settle (decode image.old) (decode image.old).clock (taken (decode image.old) m.now ∷ [])))).image) }
 {
@@ -114,18 +109,16 @@ fn take_in_checked(image: &mut [u8], m: &[u8]) -> Verdict
     let mut rows: [u8; 96] = [0; 96];
     block::copy_in(&mut rows, 0, &image[16..112]);
     if !arriving::enter_rows(image, count, m, &mut rows) {
-        return Verdict::Refused(Refusal::RowTooFar);
+        return Err(Refusal::RowTooFar);
     }
     take_in_entered(image, count, m, &rows)
 }
 
 // "Take in: fill the local object, merge with the message's": rows 3 to 10, and then the rest.
-pub fn take_in_at(image: &mut [u8], message: &[u8]) -> Verdict
+pub fn take_in_at(image: &mut [u8], message: &[u8]) -> Result<(), Refusal>
     requires { (length image.old ≡ image_length) × (good_image image.old ≡ true) × (length message.now ≡ 512) }
     ensures { (result ≡ (afterwards image.old [] (heard image.old message.now)).verdict) × (image.new ≡ (afterwards image.old [] (heard image.old message.now)).image) }
 {
-    match checking::judge_message(image, message) {
-        Verdict::Refused(r) => Verdict::Refused(r),
-        Verdict::Accepted => take_in_checked(image, message),
-    }
+    checking::judge_message(image, message)?;
+    take_in_checked(image, message)
 }

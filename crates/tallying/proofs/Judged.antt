@@ -10,7 +10,6 @@ use borrow.Author.Tests.{le-ltb, lt-ltb, ltb-false}
 use Rattle.numbers.specs.Words.{ascends?, some?, keep, fold}
 use Rattle.numbers.proofs.Tests.{◌∈◌}
 use Rattle.numbers.proofs.Lists.{none_in}
-use Rattle.refusal.specs.declared.Verdict.TheVariants.{Accepted, Refused}
 use Rattle.refusal.specs.declared.Refusal.{Refusal}
 use Rattle.refusal.specs.declared.Refusal.TheVariants.{RowTooFar, TooManyVersions, TooManyPoints}
 use Rattle.refusal.specs.Refusal.{refused, accepted, refuse◌when◌else◌, verdict_of}
@@ -23,26 +22,27 @@ use Rattle.laws.proofs.Answers.{passes, passes_not, then, by_refusal, by_none, a
 use Rattle.placing.specs.Placed.{comes, goes_away}
 use Rattle.placing.proofs.Count.{all_count}
 use Rattle.tallying.specs.Tallied.{too_many, results_judged}
+use Rattle.std.specs.Prelude.{Ok, Err}
 
 module _ (s : State) (c : Clock) (rs : List Stored) where
   abbrev left : ℕ
   left = length (fold (put c) s.points rs)
 
-  pub far : every_row fits c ≡ false → Refused RowTooFar ≡ verdict_of (results_judged s c rs true)
+  pub far : every_row fits c ≡ false → Err RowTooFar ≡ verdict_of (results_judged s c rs true)
   unfolding results_judged refuse◌when◌else◌
   far h = sym (rw h)
 
   module _ (fit : every_row fits c ≡ true) where
-    pub many_versions : some? too_many rs ≡ true → Refused TooManyVersions ≡ verdict_of (results_judged s c rs true)
+    pub many_versions : some? too_many rs ≡ true → Err TooManyVersions ≡ verdict_of (results_judged s c rs true)
     unfolding results_judged refuse◌when◌else◌
     many_versions h = sym (rw (fit, h))
 
     module _ (few : some? too_many rs ≡ false) where
-      many_points : ltb most_points (length (fold (put c) s.points rs)) ≡ true → Refused TooManyPoints ≡ verdict_of (results_judged s c rs true)
+      many_points : ltb most_points (length (fold (put c) s.points rs)) ≡ true → Err TooManyPoints ≡ verdict_of (results_judged s c rs true)
       unfolding results_judged refuse◌when◌else◌
       many_points h = sym (rw (fit, few, h))
 
-      may_be_put : ltb most_points (length (fold (put c) s.points rs)) ≡ false → Accepted ≡ verdict_of (results_judged s c rs true)
+      may_be_put : ltb most_points (length (fold (put c) s.points rs)) ≡ false → (Ok tt) ≡ verdict_of (results_judged s c rs true)
       unfolding results_judged refuse◌when◌else◌
       may_be_put h = sym (rw (fit, few, h))
 
@@ -52,14 +52,14 @@ module _ (s : State) (c : Clock) (rs : List Stored) where
         balance : left + going ≡ count + coming
         balance = omega (arith, all_count c s.points rs up order, stored, come, go)
 
-        pub no_place : 64 + going < count + coming → Refused TooManyPoints ≡ verdict_of (results_judged s c rs true)
+        pub no_place : 64 + going < count + coming → Err TooManyPoints ≡ verdict_of (results_judged s c rs true)
         no_place h = many_points (lt-ltb most_points left (omega (arith, balance, h)))
 
-        pub place_for_all : count + coming ≤ 64 + going → Accepted ≡ verdict_of (results_judged s c rs true)
+        pub place_for_all : count + coming ≤ 64 + going → (Ok tt) ≡ verdict_of (results_judged s c rs true)
         place_for_all h = may_be_put (le-ltb most_points left (omega (arith, balance, h)))
 
   -- accepted ones passed them
-  pub passed : verdict_of (results_judged s c rs true) ≡ Accepted → ((r : Stored) → r ∈ rs → length r.object.versions ≤ most_versions) × (length (fold (put c) s.points rs) ≤ most_points)
+  pub passed : verdict_of (results_judged s c rs true) ≡ Ok tt → ((r : Stored) → r ∈ rs → length r.object.versions ≤ most_versions) × (length (fold (put c) s.points rs) ≤ most_points)
   unfolding results_judged
   passed e =
       let a = (accepted_with (results_judged s c rs true) e).1 in
@@ -89,8 +89,8 @@ module _ (s : State) (c : Clock) (rs : List Stored) where
     settles : settle s k rs ≡ then (results_judged s c rs true) (accepted (settled s k rs))
     settles = settle_is ∙ ap (λ (z : Clock). then (results_judged s z rs true) (accepted (settled s k rs))) is
 
-    pub settle_refused : (q : Refusal) → verdict_of (results_judged s c rs true) ≡ Refused q → settle s k rs ≡ refused q
+    pub settle_refused : (q : Refusal) → verdict_of (results_judged s c rs true) ≡ Err q → settle s k rs ≡ refused q
     settle_refused q e = settles ∙ by_refusal (accepted (settled s k rs)) (results_judged s c rs true) q e
 
-    pub settle_made : verdict_of (results_judged s c rs true) ≡ Accepted → settle s k rs ≡ accepted (settled s k rs)
+    pub settle_made : verdict_of (results_judged s c rs true) ≡ Ok tt → settle s k rs ≡ accepted (settled s k rs)
     settle_made e = settles ∙ by_none (accepted (settled s k rs)) (results_judged s c rs true) e

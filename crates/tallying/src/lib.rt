@@ -15,7 +15,7 @@ ghost use Rattle.placing.specs.Placed.{comes};
 ghost use Rattle.mending.specs.Mended.{mend, results};
 ghost use Rattle.tallying.specs.Tallied.{mark, Ready, AllReady, results_judged, Weighed, AllWeighed};
 
-use refusal::{Refusal, Verdict};
+use refusal::Refusal;
 
 // ---- one point
 
@@ -125,7 +125,7 @@ pub fn judge_results(
     clock: &[u8],
     rows: &[u8],
     marks: &mut [u8],
-) -> Verdict
+) -> Result<(), Refusal>
     requires { (length image.now ≡ image_length) × (good_image image.now ≡ true) × (count ≡ length (decode image.now).points) × (length clock.now ≡ 96) × AllReady (decode image.now) (decode_clock clock.now) points.now × (length rows.now ≡ 96)
         × (length points.now / 512 ≤ length marks.old) × (length marks.old ≡ 120)
         × (ascends? stored_before (results (decode image.now) (decode_clock clock.now) points.now) ≡ true) × (every_row fits (decode_clock rows.now) ≡ true) }
@@ -138,10 +138,10 @@ pub fn judge_results(
     let coming = w.coming;
     let going = w.going;
     if many {
-        return Verdict::Refused(Refusal::TooManyVersions);
+        return Err(Refusal::TooManyVersions);
     }
     if 64 + going < count + coming {
-        return Verdict::Refused(Refusal::TooManyPoints);
+        return Err(Refusal::TooManyPoints);
     }
-    Verdict::Accepted
+    Ok(())
 }

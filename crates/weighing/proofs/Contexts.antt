@@ -23,13 +23,13 @@ use Rattle.meaning.specs.State.{stored_before, look_up, local}
 use Rattle.layout.specs.PointBlock.{decode_context}
 use Rattle.layout.specs.Clocks.{decode_clock}
 use Rattle.layout.specs.Image.{image_length, decode}
-use Rattle.dots.specs.declared.Found.TheVariants.{At}
 use Rattle.record.proofs.Reading.{context_field}
 use Rattle.image.specs.Places.{PointIn}
 use Rattle.store.proofs.Lent.{table_part, clock_part}
 use Rattle.store.proofs.Record.{context_of}
 use Rattle.arriving.proofs.Arrivals.{object_there}
 use Rattle.image_edits.specs.Edits.{Canonical}
+use Rattle.std.specs.Prelude.{Ok}
 
 module _ (img : List ℕ) (size : length img ≡ image_length) (k : Key) where
   pub local_is : (stored : List ℕ) → (look_up k (decode img).points).context ≡ decode_context stored → (c : Context) → c ≡ fill_context (cut img 8 8) k.job (decode_clock (cut img 16 96)) (decode_context stored) → c ≡ (local (decode img) k).context
@@ -40,7 +40,7 @@ module _ (img : List ℕ) (size : length img ≡ image_length) (k : Key) where
 
 -- ---- in the record that was found
 
-module _ (img : List ℕ) (small : Bytes img) (size : length img ≡ image_length) (canonical : Canonical img) (up : ascends? stored_before (decode img).points ≡ true) (k : Key) (i : ℕ) (at : PointIn (decode img).points k (At i)) where
+module _ (img : List ℕ) (small : Bytes img) (size : length img ≡ image_length) (canonical : Canonical img) (up : ascends? stored_before (decode img).points ≡ true) (k : Key) (i : ℕ) (at : PointIn (decode img).points k (Ok i)) where
   pub found_context : (look_up k (decode img).points).context ≡ decode_context (take (512 * (3 + i) + 40 - (512 * (3 + i) + 8)) (drop (512 * (3 + i) + 8) img))
   found_context =
       ap (λ (o : Object). o.context) (object_there img small size canonical up k i at) ∙ context_of lent

@@ -1,5 +1,5 @@
 -- Rows 12 and 13 of the table, judged on the lent image. Assumes nothing.
-use Rattle.std.specs.Prelude.{if◌then◌else◌}
+use Rattle.std.specs.Prelude.{if◌then◌else◌, Ok, Err}
 use Prim.Native.Nat.{ℕ, ◌+◌, ◌-◌, ◌*◌, ◌≤◌, ◌<◌}
 use mathlib.Core.Path.{◌≡◌, refl, ap, ap₂, sym, ◌∙◌, subst}
 use mathlib.Core.Bool.{Bool, true, false, ◌&&◌, ◌||◌, not}
@@ -26,7 +26,6 @@ use Rattle.meaning.specs.Message.{most_versions}
 use Rattle.meaning.specs.Settle.{stripped, without, put}
 use Rattle.layout.specs.PointBlock.{form_1, decode_point}
 use Rattle.layout.specs.Image.{image_length, decode, good_image}
-use Rattle.dots.specs.declared.Found.TheVariants.{At, Before}
 use Rattle.record_edits.specs.Written.{lay_point, point_block}
 use Rattle.record_edits.proofs.Edits.{count_is, few_versions}
 use Rattle.image.specs.Places.{no_point, PointIn}
@@ -97,7 +96,7 @@ module _ (img : List ℕ) (small : Bytes img) (size : length img ≡ image_lengt
 
   -- ---- a record was found
 
-  module _ (i : ℕ) (at : PointIn (decode img).points (key_in m) (At i)) where
+  module _ (i : ℕ) (at : PointIn (decode img).points (key_in m) (Ok i)) where
     abbrev lent : List ℕ
     lent = take (512 * (3 + i) + 512 - 512 * (3 + i)) (drop (512 * (3 + i)) img)
 
@@ -156,7 +155,7 @@ module _ (img : List ℕ) (small : Bytes img) (size : length img ≡ image_lengt
 
   -- ---- none was
 
-  module _ (i : ℕ) (at : PointIn (decode img).points (key_in m) (Before i)) where
+  module _ (i : ℕ) (at : PointIn (decode img).points (key_in m) (Err i)) where
     none : has_record k (decode img).points ≡ false
     none = record_none k (decode img).points i at
 

@@ -16,7 +16,6 @@ ghost use Rattle.image_edits.specs.Edits.{Canonical};
 ghost use Rattle.store.specs.HasRecord.{has_record};
 ghost use Rattle.weighing.specs.Weighed.{key_in, Takable, result_of};
 
-use dots::Found;
 use numbers::Key;
 
 // ---- the two contexts
@@ -27,7 +26,7 @@ pub fn local_context(image: &[u8], count: usize, k: Key, out: &mut [u32])
     ensures { (map counter out.new ≡ (local (decode image.now) k).context) × (length out.new ≡ 8) }
 {
     match image::find_point(image, count, k) {
-        Found::At(i) => {
+        Ok(i) => {
             let at = 512 * (3 + i);
             merging::filled_context(
                 &image[at + 8..at + 40],
@@ -37,7 +36,7 @@ pub fn local_context(image: &[u8], count: usize, k: Key, out: &mut [u32])
                 out,
             );
         }
-        Found::Before(_) => {
+        Err(_) => {
             let none: [u8; 32] = [0; 32];
             merging::filled_context(&none, k.job, &image[8..16], &image[16..112], out);
         }
@@ -64,11 +63,11 @@ pub fn too_many(image: &[u8], count: usize, m: &[u8], here: &[u32], there: &[u32
     ensures { result ≡ ltb most_versions (length (result_of (decode image.now) m.now there.now).object.versions) }
 {
     match image::find_point(image, count, record::key_of(m)) {
-        Found::At(i) => {
+        Ok(i) => {
             let at = 512 * (3 + i);
             8 < merging::surviving(&image[at..at + 512], m, there) + object::staying(m, here)
         }
-        Found::Before(_) => false,
+        Err(_) => false,
     }
 }
 
@@ -85,8 +84,8 @@ pub fn needs_place(
     ensures { result ≡ ltb (length (decode image.now).points) (length (put (decode_clock rows.now) (decode image.now).points (result_of (decode image.now) m.now there.now))) }
 {
     match image::find_point(image, count, record::key_of(m)) {
-        Found::At(_) => false,
-        Found::Before(_) => !merging::goes_alone(m, here, there, rows),
+        Ok(_) => false,
+        Err(_) => !merging::goes_alone(m, here, there, rows),
     }
 }
 
@@ -103,10 +102,10 @@ pub fn record_goes(
     ensures { result ≡ (has_record (key_in m.now) (decode image.now).points && gone (strip (decode_clock rows.now) (result_of (decode image.now) m.now there.now).object)) }
 {
     match image::find_point(image, count, record::key_of(m)) {
-        Found::At(i) => {
+        Ok(i) => {
             let at = 512 * (3 + i);
             merging::goes_with(&image[at..at + 512], m, here, there, rows)
         }
-        Found::Before(_) => false,
+        Err(_) => false,
     }
 }

@@ -7,7 +7,6 @@ use lib.Dec.{leb}
 use borrow.Author.Tests.{leb-false}
 use Rattle.numbers.specs.declared.Key.{Key}
 use Rattle.numbers.specs.Numbers.{last_counter}
-use Rattle.refusal.specs.declared.Verdict.TheVariants.{Accepted, Refused}
 use Rattle.refusal.specs.declared.Refusal.{Refusal}
 use Rattle.refusal.specs.declared.Refusal.TheVariants.{ContextAhead, TooManyVersions, TooManyPoints, OwnListFull, CountersUsedUp}
 use Rattle.refusal.specs.Refusal.{refused, accepted, refuse◌when◌else◌, verdict_of}
@@ -19,6 +18,7 @@ use Rattle.meaning.specs.OwnSteps.{context_ahead}
 use Rattle.laws.proofs.Answers.{passes, then, by_refusal, by_none}
 use Rattle.store.specs.HasRecord.{has_record}
 use Rattle.writing.specs.Judged.{staying, own_judged, judged}
+use Rattle.std.specs.Prelude.{Ok, Err}
 
 same_refusals : {A : Type 0} (x : A) (a b c d e : Bool)
     → (refuse ContextAhead when a else refuse TooManyVersions when b else refuse TooManyPoints when c else refuse OwnListFull when d else refuse CountersUsedUp when e else accepted x)
@@ -37,10 +37,10 @@ module _ (s : State) (k : Key) (valued : Bool) (c : Context) where
   any_result x =
       same_refusals x (context_ahead s k c) (leb most_versions (length (staying s k c))) (valued && (not (has_record k s.points) && leb most_points (length s.points))) (leb most_listed (length s.own_dots)) (leb last_counter (own_base s))
 
-  pub judged_refused : {A : Type 0} (x : A) (r : Refusal) → verdict_of (judged s k valued c true) ≡ Refused r → judged s k valued c x ≡ refused r
+  pub judged_refused : {A : Type 0} (x : A) (r : Refusal) → verdict_of (judged s k valued c true) ≡ Err r → judged s k valued c x ≡ refused r
   judged_refused x r e = any_result x ∙ by_refusal (accepted x) (judged s k valued c true) r e
 
-  module _ (ok : verdict_of (judged s k valued c true) ≡ Accepted) where
+  module _ (ok : verdict_of (judged s k valued c true) ≡ Ok tt) where
     pub judged_accepted : {A : Type 0} (x : A) → judged s k valued c x ≡ accepted x
     judged_accepted x = any_result x ∙ by_none (accepted x) (judged s k valued c true) ok
 

@@ -8,7 +8,6 @@ use lib.ListN.{length}
 use Rattle.numbers.specs.declared.Key.{Key}
 use Rattle.numbers.proofs.Tests.{and_right}
 use Rattle.numbers.specs.Key.{is_key}
-use Rattle.refusal.specs.declared.Verdict.TheVariants.{Accepted}
 use Rattle.refusal.specs.Refusal.{accepted, verdict_of}
 use Rattle.block.specs.Block.{Laid}
 use Rattle.meaning.specs.CrewTable.{holds}
@@ -34,13 +33,14 @@ use Rattle.writing.specs.Recorded.{next_clock, recorded}
 use Rattle.writing.proofs.PutDown.{put_down_judged}
 use Rattle.writing.proofs.Accepted.{judged_accepted}
 use Rattle.writing.proofs.After.{settled_is}
+use Rattle.std.specs.Prelude.{Ok}
 
 -- the job of a point that is ours is held here
 pub held_here : (s : State) (k : Key) → ours s k ≡ true → holds s.table s.own k.job ≡ true
 unfolding ours
 held_here s k t = and_right (is_key k) (holds s.table s.own k.job) t
 
-module _ (s : State) (G : Good s) (k : Key) (b : Contents) (c : Context) (mine : ours s k ≡ true) (ok : verdict_of (judged s k (has_value b) c true) ≡ Accepted) where
+module _ (s : State) (G : Good s) (k : Key) (b : Contents) (c : Context) (mine : ours s k ≡ true) (ok : verdict_of (judged s k (has_value b) c true) ≡ Ok tt) where
   abbrev result : Stored
   result = record { key = k; object = written s k b c }
 

@@ -11,7 +11,6 @@ use Rattle.numbers.specs.declared.Key.{Key}
 use Rattle.numbers.specs.Words.{all?}
 use Rattle.numbers.proofs.Tests.{and_both}
 use Rattle.numbers.proofs.Lists.{in_all}
-use Rattle.refusal.specs.declared.Verdict.TheVariants.{Accepted, Refused}
 use Rattle.refusal.specs.declared.Refusal.{Refusal}
 use Rattle.refusal.specs.declared.Refusal.TheVariants.{ValueTooLong}
 use Rattle.refusal.specs.Refusal.{Answer, refused, accepted, refuse◌when◌else◌, verdict_of}
@@ -34,6 +33,7 @@ use Rattle.writing.specs.LeftBy.{left_by}
 use Rattle.writing.proofs.PutDown.{put_down_judged}
 use Rattle.writing.proofs.Accepted.{judged_refused}
 use Rattle.writing.proofs.Down.{held_here, put_down_done}
+use Rattle.std.specs.Prelude.{Ok, Err}
 
 -- ---- what is left
 
@@ -41,7 +41,7 @@ use Rattle.writing.proofs.Down.{held_here, put_down_done}
 abbrev pub made : State → Key → Contents → Context → After
 made s k b c =
     record {
-      verdict = Accepted;
+      verdict = Ok tt;
       image = encode (settled s s.clock (record { key = k; object = written s k b c } ∷ []));
       out = encode_outgoing (record { sender = s.own; key = k; object = written s k b c });
       count = 0;
@@ -61,7 +61,7 @@ module _ (img out : List ℕ) (a : Answer Done) where
 
 module _ (s : State) (G : Good s) (k : Key) (c : Context) (mine : ours s k ≡ true) (img out : List ℕ) where
   module _ (b : Contents) where
-    down_refused : (r : Refusal) → verdict_of (judged s k (has_value b) c true) ≡ Refused r → put_down s k b c ≡ refused r
+    down_refused : (r : Refusal) → verdict_of (judged s k (has_value b) c true) ≡ Err r → put_down s k b c ≡ refused r
     down_refused r e = put_down_judged s G k b c (held_here s k mine) ∙ judged_refused s k (has_value b) c _ r e
 
   pub write_long : (v : List ℕ) → longest_value < length v → afterwards img out (left_by (write s k v c)) ≡ untouched ValueTooLong img out
@@ -72,20 +72,20 @@ module _ (s : State) (G : Good s) (k : Key) (c : Context) (mine : ours s k ≡ t
     unfolding write refuse◌when◌else◌
     goes_on = rw (mine, le-ltb longest_value (length v) short)
 
-    pub write_refused : (r : Refusal) → verdict_of (judged s k true c true) ≡ Refused r → afterwards img out (left_by (write s k v c)) ≡ untouched r img out
+    pub write_refused : (r : Refusal) → verdict_of (judged s k true c true) ≡ Err r → afterwards img out (left_by (write s k v c)) ≡ untouched r img out
     write_refused r e = left_refused img out (write s k v c) r (goes_on ∙ down_refused (value v) r e)
 
-    pub write_made : verdict_of (judged s k true c true) ≡ Accepted → afterwards img out (left_by (write s k v c)) ≡ made s k (value v) c
+    pub write_made : verdict_of (judged s k true c true) ≡ Ok tt → afterwards img out (left_by (write s k v c)) ≡ made s k (value v) c
     write_made e = left_done img out (write s k v c) s k (value v) c (goes_on ∙ put_down_done s G k (value v) c mine e)
 
   deletes : delete s k c ≡ put_down s k deleted c
   unfolding delete refuse◌when◌else◌
   deletes = rw mine
 
-  pub delete_refused : (r : Refusal) → verdict_of (judged s k false c true) ≡ Refused r → afterwards img out (left_by (delete s k c)) ≡ untouched r img out
+  pub delete_refused : (r : Refusal) → verdict_of (judged s k false c true) ≡ Err r → afterwards img out (left_by (delete s k c)) ≡ untouched r img out
   delete_refused r e = left_refused img out (delete s k c) r (deletes ∙ down_refused deleted r e)
 
-  pub delete_made : verdict_of (judged s k false c true) ≡ Accepted → afterwards img out (left_by (delete s k c)) ≡ made s k deleted c
+  pub delete_made : verdict_of (judged s k false c true) ≡ Ok tt → afterwards img out (left_by (delete s k c)) ≡ made s k deleted c
   delete_made e = left_done img out (delete s k c) s k deleted c (deletes ∙ put_down_done s G k deleted c mine e)
 
 -- ---- the slot
@@ -103,7 +103,7 @@ module _ (v : Version) (x : List ℕ) (S : SlotSized form_1 v) (e : x ≡ encode
   pub slot_formed : contents_formed v.contents ≡ true → contents_formed (decode_slot form_1 x).contents ≡ true
   slot_formed h = ap contents_formed slot_contents ∙ h
 
-  pub slot_judged : (s : State) (k : Key) (c : Context) → verdict_of (judged s k (has_value v.contents) c true) ≡ Accepted → verdict_of (judged s k (has_value (decode_slot form_1 x).contents) c true) ≡ Accepted
+  pub slot_judged : (s : State) (k : Key) (c : Context) → verdict_of (judged s k (has_value v.contents) c true) ≡ Ok tt → verdict_of (judged s k (has_value (decode_slot form_1 x).contents) c true) ≡ Ok tt
   slot_judged s k c h = ap (λ (b : Contents). verdict_of (judged s k (has_value b) c true)) slot_contents ∙ h
 
   pub slot_made : (s : State) (k : Key) (c : Context) (y z : List ℕ) → (y ≡ (made s k (decode_slot form_1 x).contents c).image) × (z ≡ (made s k (decode_slot form_1 x).contents c).out) → (y ≡ (made s k v.contents c).image) × (z ≡ (made s k v.contents c).out)

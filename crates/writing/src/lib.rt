@@ -1,10 +1,9 @@
 // A write and a delete: judged on the lent image, then made: the message, the clock, the list, the record.
 #![tactic(auto)]
 
-ghost use Rattle.std.specs.Prelude.{[], ◌∷◌, ◌≡◌, Bool, true, false, ◌&&◌, ◌≤◌, ◌<◌, length, leb};
+ghost use Rattle.std.specs.Prelude.{[], ◌∷◌, ◌≡◌, Bool, true, false, ◌&&◌, ◌≤◌, ◌<◌, length, leb, Ok};
 ghost use Rattle.numbers.specs.Words.{map};
 ghost use Rattle.numbers.specs.Numbers.{counter, last_counter};
-ghost use Rattle.refusal.specs.declared.Verdict.TheVariants.{Accepted};
 ghost use Rattle.block.specs.Fields.{field};
 ghost use Rattle.block.specs.Block.{Laid};
 ghost use Rattle.meaning.specs.CrewTable.{holds};
@@ -25,9 +24,8 @@ ghost use Rattle.writing.specs.Judged.{staying, own_judged, judged};
 ghost use Rattle.writing.specs.LeftBy.{left_by};
 ghost use Rattle.writing.specs.Recorded.{next_clock, recorded};
 
-use dots::Found;
 use numbers::{Counter, Dot, Key};
-use refusal::{Refusal, Verdict};
+use refusal::Refusal;
 use row::Row;
 
 // The base of the own row.
@@ -54,21 +52,21 @@ fn next_dot(image: &[u8]) -> Dot
 // ---- judging, on the lent image alone
 
 // 14: "60 own dots listed already". 15: "own base is 4,294,967,295".
-fn judge_own(image: &[u8]) -> Verdict
+fn judge_own(image: &[u8]) -> Result<(), Refusal>
     requires { (length image.now ≡ image_length) × (good_image image.now ≡ true) }
     ensures { result ≡ verdict_of (own_judged (decode image.now) true) }
 {
     if 60 <= dots::entry_count(&image[512..1024]) {
-        return Verdict::Refused(Refusal::OwnListFull);
+        return Err(Refusal::OwnListFull);
     }
     if 4294967295 <= own_base(image) {
-        return Verdict::Refused(Refusal::CountersUsedUp);
+        return Err(Refusal::CountersUsedUp);
     }
-    Verdict::Accepted
+    Ok(())
 }
 
 // The point has the record b: 8 by its context, 12 by the versions that stay. It has its place, so 13 never applies.
-fn judge_record(image: &[u8], b: &[u8], context: &[u32]) -> Verdict
+fn judge_record(image: &[u8], b: &[u8], context: &[u32]) -> Result<(), Refusal>
     requires { (length image.now ≡ image_length) × (good_image image.now ≡ true) × (length b.now ≡ 512) × (field b.now 5 1 ≤ 8) × (crewed (decode_point form_1 b.now).object.versions ≡ true) × (length context.now ≡ 8)
         × (has_record (decode_point form_1 b.now).key (decode image.now).points ≡ true) × (look_up (decode_point form_1 b.now).key (decode image.now).points ≡ (decode_point form_1 b.now).object) }
     ensures { (valued : Bool) → result ≡ verdict_of (judged (decode image.now) (decode_point form_1 b.now).key valued (map counter context.now) true) }
@@ -80,10 +78,10 @@ fn judge_record(image: &[u8], b: &[u8], context: &[u32]) -> Verdict
         &image[16..112],
         context,
     ) {
-        return Verdict::Refused(Refusal::ContextAhead);
+        return Err(Refusal::ContextAhead);
     }
     if 8 <= object::staying(b, context) {
-        return Verdict::Refused(Refusal::TooManyVersions);
+        return Err(Refusal::TooManyVersions);
     }
     judge_own(image)
 }
@@ -99,32 +97,32 @@ fn no_place(count: usize, valued: bool) -> bool
 }
 
 // The point has no record: 8 by an empty context; no version stays, so 12 never applies; 13 where a value needs a place.
-fn judge_new(image: &[u8], count: usize, k: Key, valued: bool, context: &[u32]) -> Verdict
+fn judge_new(image: &[u8], count: usize, k: Key, valued: bool, context: &[u32]) -> Result<(), Refusal>
     requires { (length image.now ≡ image_length) × (good_image image.now ≡ true) × (count ≡ length (decode image.now).points) × (length context.now ≡ 8) × (has_record k (decode image.now).points ≡ false) }
     ensures { result ≡ verdict_of (judged (decode image.now) k valued (map counter context.now) true) }
 {
     let none: [u8; 32] = [0; 32];
     if object::ahead(&none, k.job, &image[8..16], &image[16..112], context) {
-        return Verdict::Refused(Refusal::ContextAhead);
+        return Err(Refusal::ContextAhead);
     }
     if no_place(count, valued) {
-        return Verdict::Refused(Refusal::TooManyPoints);
+        return Err(Refusal::TooManyPoints);
     }
     judge_own(image)
 }
 
 // The first refusal from 8 on that applies to writing a value, or to deleting, at k with this context.
-fn judge(image: &[u8], k: Key, valued: bool, context: &[u32]) -> Verdict
+fn judge(image: &[u8], k: Key, valued: bool, context: &[u32]) -> Result<(), Refusal>
     requires { (length image.now ≡ image_length) × (good_image image.now ≡ true) × (length context.now ≡ 8) }
     ensures { result ≡ verdict_of (judged (decode image.now) k valued (map counter context.now) true) }
 {
     let count = image::stored_count(image);
     match image::find_point(image, count, k) {
-        Found::At(i) => {
+        Ok(i) => {
             let at = 512 * (3 + i);
             judge_record(image, &image[at..at + 512], context)
         }
-        Found::Before(_) => judge_new(image, count, k, valued, context),
+        Err(_) => judge_new(image, count, k, valued, context),
     }
 }
 
@@ -173,7 +171,7 @@ fn keep_written(image: &mut [u8], d: Dot, b: &[u8])
 fn put_down(image: &mut [u8], k: Key, d: Dot, slot: &[u8], context: &[u32], out: &mut [u8])
     requires { (length image.old ≡ image_length) × (good_image image.old ≡ true) × (ours (decode image.old) k ≡ true) × (d ≡ next_dot (decode image.old))
         × (length slot.now ≡ 32) × (encode_slot form_1 (decode_slot form_1 slot.now) ≡ slot.now) × ((decode_slot form_1 slot.now).dot ≡ d) × (contents_formed (decode_slot form_1 slot.now).contents ≡ true)
-        × (length context.now ≡ 8) × (verdict_of (judged (decode image.old) k (has_value (decode_slot form_1 slot.now).contents) (map counter context.now) true) ≡ Accepted) × (length out.old ≡ 512) }
+        × (length context.now ≡ 8) × (verdict_of (judged (decode image.old) k (has_value (decode_slot form_1 slot.now).contents) (map counter context.now) true) ≡ Ok tt) × (length out.old ≡ 512) }
     ensures { (image.new ≡ encode (settled (decode image.old) (decode image.old).clock (record { key = k; object = written (decode image.old) k (decode_slot form_1 slot.now).contents (map counter context.now) } ∷ [])))
         × (out.new ≡ encode_outgoing (record { sender = (decode image.old).own; key = k; object = written (decode image.old) k (decode_slot form_1 slot.now).contents (map counter context.now) })) }
 {
@@ -184,7 +182,7 @@ fn put_down(image: &mut [u8], k: Key, d: Dot, slot: &[u8], context: &[u32], out:
 // A value that was judged.
 fn put_value(image: &mut [u8], k: Key, said: &[u8], context: &[u32], out: &mut [u8])
     requires { (length image.old ≡ image_length) × (good_image image.old ≡ true) × (ours (decode image.old) k ≡ true) × (length said.now ≤ longest_value)
-        × (length context.now ≡ 8) × (verdict_of (judged (decode image.old) k true (map counter context.now) true) ≡ Accepted) × (length out.old ≡ 512) }
+        × (length context.now ≡ 8) × (verdict_of (judged (decode image.old) k true (map counter context.now) true) ≡ Ok tt) × (length out.old ≡ 512) }
     ensures { (image.new ≡ encode (settled (decode image.old) (decode image.old).clock (record { key = k; object = written (decode image.old) k (value said.now) (map counter context.now) } ∷ [])))
         × (out.new ≡ encode_outgoing (record { sender = (decode image.old).own; key = k; object = written (decode image.old) k (value said.now) (map counter context.now) })) }
 {
@@ -197,7 +195,7 @@ fn put_value(image: &mut [u8], k: Key, said: &[u8], context: &[u32], out: &mut [
 // A deletion that was judged.
 fn put_deletion(image: &mut [u8], k: Key, context: &[u32], out: &mut [u8])
     requires { (length image.old ≡ image_length) × (good_image image.old ≡ true) × (ours (decode image.old) k ≡ true)
-        × (length context.now ≡ 8) × (verdict_of (judged (decode image.old) k false (map counter context.now) true) ≡ Accepted) × (length out.old ≡ 512) }
+        × (length context.now ≡ 8) × (verdict_of (judged (decode image.old) k false (map counter context.now) true) ≡ Ok tt) × (length out.old ≡ 512) }
     ensures { (image.new ≡ encode (settled (decode image.old) (decode image.old).clock (record { key = k; object = written (decode image.old) k deleted (map counter context.now) } ∷ [])))
         × (out.new ≡ encode_outgoing (record { sender = (decode image.old).own; key = k; object = written (decode image.old) k deleted (map counter context.now) })) }
 {
@@ -210,36 +208,28 @@ fn put_deletion(image: &mut [u8], k: Key, context: &[u32], out: &mut [u8])
 // ---- the steps, on a good image and a point that is ours
 
 // Write: 7, then what a write and a delete have in common.
-pub fn write_at(image: &mut [u8], k: Key, said: &[u8], context: &[u32], out: &mut [u8]) -> Verdict
+pub fn write_at(image: &mut [u8], k: Key, said: &[u8], context: &[u32], out: &mut [u8]) -> Result<(), Refusal>
     requires { (length image.old ≡ image_length) × (good_image image.old ≡ true) × (ours (decode image.old) k ≡ true) × (length context.now ≡ 8) × (length out.old ≡ 512) }
     ensures { (result ≡ (afterwards image.old out.old (left_by (write (decode image.old) k said.now (map counter context.now)))).verdict)
         × (image.new ≡ (afterwards image.old out.old (left_by (write (decode image.old) k said.now (map counter context.now)))).image)
         × (out.new ≡ (afterwards image.old out.old (left_by (write (decode image.old) k said.now (map counter context.now)))).out) }
 {
     if 24 < said.len() {
-        return Verdict::Refused(Refusal::ValueTooLong);
+        return Err(Refusal::ValueTooLong);
     }
-    match judge(image, k, true, context) {
-        Verdict::Refused(r) => Verdict::Refused(r),
-        Verdict::Accepted => {
-            put_value(image, k, said, context, out);
-            Verdict::Accepted
-        }
-    }
+    judge(image, k, true, context)?;
+    put_value(image, k, said, context, out);
+    Ok(())
 }
 
 // Delete: what a write and a delete have in common.
-pub fn delete_at(image: &mut [u8], k: Key, context: &[u32], out: &mut [u8]) -> Verdict
+pub fn delete_at(image: &mut [u8], k: Key, context: &[u32], out: &mut [u8]) -> Result<(), Refusal>
     requires { (length image.old ≡ image_length) × (good_image image.old ≡ true) × (ours (decode image.old) k ≡ true) × (length context.now ≡ 8) × (length out.old ≡ 512) }
     ensures { (result ≡ (afterwards image.old out.old (left_by (delete (decode image.old) k (map counter context.now)))).verdict)
         × (image.new ≡ (afterwards image.old out.old (left_by (delete (decode image.old) k (map counter context.now)))).image)
         × (out.new ≡ (afterwards image.old out.old (left_by (delete (decode image.old) k (map counter context.now)))).out) }
 {
-    match judge(image, k, false, context) {
-        Verdict::Refused(r) => Verdict::Refused(r),
-        Verdict::Accepted => {
-            put_deletion(image, k, context, out);
-            Verdict::Accepted
-        }
-    }
+    judge(image, k, false, context)?;
+    put_deletion(image, k, context, out);
+    Ok(())
 }

@@ -1,10 +1,10 @@
 -- `arriving::try_counter` meets its contract. Assumes nothing.
-use Rattle.row.specs.declared.Added.TheVariants.{Now, TooFar}
 use Rattle.arriving.proofs.Trying.{says}
 use Rattle.arriving.proofs.try_counter.Goals as goal
+use Rattle.std.specs.Prelude.{Some, None}
 
-pub returns-in-Now : goal.returns-in-Now
-returns-in-Now c = says c.args.t c.args.c _ (Now c.in-Now.r) c.add.ensures c.in-Now.is
+pub returns-in-Some : goal.returns-in-Some
+returns-in-Some c = says c.args.t c.args.c _ (Some c.in-Some.r) c.add.ensures c.in-Some.is
 
-pub returns-in-TooFar : goal.returns-in-TooFar
-returns-in-TooFar c = says c.args.t c.args.c _ TooFar c.add.ensures c.in-TooFar.is
+pub returns-in-None : goal.returns-in-None
+returns-in-None c = says c.args.t c.args.c _ None c.add.ensures c.in-None.is

@@ -14,10 +14,10 @@ pub find_version-requires : goal.find_version-requires
 find_version-requires c = (c.requires.6, few_slots c.args.p.now (bytes_of c.args.p.now c.type_inv.p) c.requires.6 c.requires.7, c.requires.8)
 
 pub slots_differ-requires : goal.slots_differ-requires
-slots_differ-requires c = (c.requires.3, c.requires.4, c.requires.5, c.requires.6, c.requires.7, slot_inside (decode c.args.image.now).points c.args.p.now (few_slots c.args.p.now (bytes_of c.args.p.now c.type_inv.p) c.requires.6 c.requires.7) (version_at c.args.b.now c.args.j) c.version_dot-d.result c.version_dot-d.ensures c.find_version.result c.find_version.ensures c.in-At.i c.in-At.is, slot_dot (decode c.args.image.now).points c.args.p.now (few_slots c.args.p.now (bytes_of c.args.p.now c.type_inv.p) c.requires.6 c.requires.7) (version_at c.args.b.now c.args.j) c.version_dot-d.result c.version_dot-d.ensures c.find_version.result c.find_version.ensures c.in-At.i c.in-At.is)
+slots_differ-requires c = (c.requires.3, c.requires.4, c.requires.5, c.requires.6, c.requires.7, slot_inside (decode c.args.image.now).points c.args.p.now (few_slots c.args.p.now (bytes_of c.args.p.now c.type_inv.p) c.requires.6 c.requires.7) (version_at c.args.b.now c.args.j) c.version_dot-d.result c.version_dot-d.ensures c.find_version.result c.find_version.ensures c.in-Ok.i c.in-Ok.is, slot_dot (decode c.args.image.now).points c.args.p.now (few_slots c.args.p.now (bytes_of c.args.p.now c.type_inv.p) c.requires.6 c.requires.7) (version_at c.args.b.now c.args.j) c.version_dot-d.result c.version_dot-d.ensures c.find_version.result c.find_version.ensures c.in-Ok.i c.in-Ok.is)
 
-pub returns-in-At : goal.returns-in-At
-returns-in-At c = slot_settles (decode c.args.image.now).points c.args.p.now (few_slots c.args.p.now (bytes_of c.args.p.now c.type_inv.p) c.requires.6 c.requires.7) (version_at c.args.b.now c.args.j) c.version_dot-d.result c.version_dot-d.ensures c.find_version.result c.find_version.ensures c.in-At.i c.in-At.is c.requires.8 c.slots_differ.result c.slots_differ.ensures
+pub returns-in-Ok : goal.returns-in-Ok
+returns-in-Ok c = slot_settles (decode c.args.image.now).points c.args.p.now (few_slots c.args.p.now (bytes_of c.args.p.now c.type_inv.p) c.requires.6 c.requires.7) (version_at c.args.b.now c.args.j) c.version_dot-d.result c.version_dot-d.ensures c.find_version.result c.find_version.ensures c.in-Ok.i c.in-Ok.is c.requires.8 c.slots_differ.result c.slots_differ.ensures
 
-pub returns-in-Before : goal.returns-in-Before
-returns-in-Before c = others_settle (decode c.args.image.now).points c.args.p.now (few_slots c.args.p.now (bytes_of c.args.p.now c.type_inv.p) c.requires.6 c.requires.7) (version_at c.args.b.now c.args.j) c.version_dot-d.result c.version_dot-d.ensures c.find_version.result c.find_version.ensures c.in-Before.field-0 c.in-Before.is c.stored_somewhere.result c.stored_somewhere.ensures
+pub returns-in-Err : goal.returns-in-Err
+returns-in-Err c = others_settle (decode c.args.image.now).points c.args.p.now (few_slots c.args.p.now (bytes_of c.args.p.now c.type_inv.p) c.requires.6 c.requires.7) (version_at c.args.b.now c.args.j) c.version_dot-d.result c.version_dot-d.ensures c.find_version.result c.find_version.ensures c.in-Err.field-0 c.in-Err.is c.stored_somewhere.result c.stored_somewhere.ensures

@@ -5,22 +5,22 @@ use Rattle.numbers.specs.Words.{ascends?}
 use Rattle.block.proofs.Numbers.{bytes_of}
 use Rattle.meaning.specs.State.{listed_before}
 use Rattle.layout.specs.Image.{decode}
-use Rattle.dots.specs.declared.Found.TheVariants.{At, Before}
 use Rattle.dots.proofs.Placing.{place_listed}
 use Rattle.image_edits.specs.Edits.{with_list}
 use Rattle.noting.proofs.Placing.{not_found, found_in}
 use Rattle.noting.proofs.Rounds.{foreign_list, foreign_few}
 use native.Mathlib.Omega.{arith}
 use Rattle.noting.proofs.list_dot.Goals as goal
+use Rattle.std.specs.Prelude.{Ok, Err}
 
 pub find_dot-requires : goal.find_dot-requires
 find_dot-requires c = (search rules, foreign_few c.args.image.now (bytes_of c.args.image.now c.slice_known-1.given) c.requires.0 c.requires.1, ap (ascends? listed_before) (foreign_list c.args.image.now (bytes_of c.args.image.now c.slice_known-1.given) c.requires.0 c.requires.1) ∙ c.requires.2)
 
 pub insert_dot-requires : goal.insert_dot-requires
-insert_dot-requires c = (c.requires.0, c.requires.1, omega arith, omega arith, (found_in _ (decode c.args.image.now).foreign_dots c.args.d (foreign_list c.args.image.now (bytes_of c.args.image.now c.slice_known-1.given) c.requires.0 c.requires.1) c.find_dot.result c.find_dot.ensures (Before c.in-Before.i) c.in-Before.is).0, c.requires.3)
+insert_dot-requires c = (c.requires.0, c.requires.1, omega arith, omega arith, (found_in _ (decode c.args.image.now).foreign_dots c.args.d (foreign_list c.args.image.now (bytes_of c.args.image.now c.slice_known-1.given) c.requires.0 c.requires.1) c.find_dot.result c.find_dot.ensures (Err c.in-Err.i) c.in-Err.is).0, c.requires.3)
 
-pub returns-in-At : goal.returns-in-At
-returns-in-At c = not_found c.args.d (decode c.args.image.now).foreign_dots c.in-At.field-0 c.requires.4 (found_in _ (decode c.args.image.now).foreign_dots c.args.d (foreign_list c.args.image.now (bytes_of c.args.image.now c.slice_known-1.given) c.requires.0 c.requires.1) c.find_dot.result c.find_dot.ensures (At c.in-At.field-0) c.in-At.is)
+pub returns-in-Ok : goal.returns-in-Ok
+returns-in-Ok c = not_found c.args.d (decode c.args.image.now).foreign_dots c.in-Ok.field-0 c.requires.4 (found_in _ (decode c.args.image.now).foreign_dots c.args.d (foreign_list c.args.image.now (bytes_of c.args.image.now c.slice_known-1.given) c.requires.0 c.requires.1) c.find_dot.result c.find_dot.ensures (Ok c.in-Ok.field-0) c.in-Ok.is)
 
-pub returns-in-Before : goal.returns-in-Before
-returns-in-Before c = (c.insert_dot.ensures.0 ∙ ap (with_list (decode c.args.image.now) 2) (sym (place_listed (record { dot = c.args.d; key = c.args.k }) (decode c.args.image.now).foreign_dots c.in-Before.i (found_in _ (decode c.args.image.now).foreign_dots c.args.d (foreign_list c.args.image.now (bytes_of c.args.image.now c.slice_known-1.given) c.requires.0 c.requires.1) c.find_dot.result c.find_dot.ensures (Before c.in-Before.i) c.in-Before.is))), c.insert_dot.ensures.1)
+pub returns-in-Err : goal.returns-in-Err
+returns-in-Err c = (c.insert_dot.ensures.0 ∙ ap (with_list (decode c.args.image.now) 2) (sym (place_listed (record { dot = c.args.d; key = c.args.k }) (decode c.args.image.now).foreign_dots c.in-Err.i (found_in _ (decode c.args.image.now).foreign_dots c.args.d (foreign_list c.args.image.now (bytes_of c.args.image.now c.slice_known-1.given) c.requires.0 c.requires.1) c.find_dot.result c.find_dot.ensures (Err c.in-Err.i) c.in-Err.is))), c.insert_dot.ensures.1)

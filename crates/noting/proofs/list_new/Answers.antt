@@ -16,17 +16,17 @@ loop-listed-init c = none_listed (decode c.args.image.now) (good_now c.args.imag
 pub next_new-requires : goal.next_new-requires
 next_new-requires c = (c.loop-listed.invariant.size, c.loop-listed.invariant.canonical, c.requires.2 ∙ ap length (sym (same_points (decode c.args.image.now) (good_now c.args.image.now c.requires.1) (points_in c.args.points.now) c.loop-listed.last c.loop-listed.listed c.loop-listed.image c.loop-listed.invariant)), still_ascend (decode c.args.image.now) (good_now c.args.image.now c.requires.1) (points_in c.args.points.now) c.loop-listed.last c.loop-listed.listed c.loop-listed.image c.loop-listed.invariant, c.requires.3, c.requires.4)
 
-pub shape_of-image-in-Nothing : goal.shape_of-image-in-Nothing
-shape_of-image-in-Nothing c = c.loop-listed.invariant.size ∙ sym c.requires.0
+pub shape_of-image-in-None : goal.shape_of-image-in-None
+shape_of-image-in-None c = c.loop-listed.invariant.size ∙ sym c.requires.0
 
-pub returns-in-Nothing : goal.returns-in-Nothing
-returns-in-Nothing c = (ends (decode c.args.image.now) (good_now c.args.image.now c.requires.1) (points_in c.args.points.now) c.loop-listed.last c.loop-listed.listed c.loop-listed.image c.loop-listed.invariant c.next_new.result c.next_new.ensures c.in-Nothing.is, c.loop-listed.invariant.canonical)
+pub returns-in-None : goal.returns-in-None
+returns-in-None c = (ends (decode c.args.image.now) (good_now c.args.image.now c.requires.1) (points_in c.args.points.now) c.loop-listed.last c.loop-listed.listed c.loop-listed.image c.loop-listed.invariant c.next_new.result c.next_new.ensures c.in-None.is, c.loop-listed.invariant.canonical)
 
 pub list_dot-requires : goal.list_dot-requires
-list_dot-requires c = (c.loop-listed.invariant.size, c.loop-listed.invariant.canonical, list_ascends (decode c.args.image.now) (good_now c.args.image.now c.requires.1) (points_in c.args.points.now) c.loop-listed.last c.loop-listed.listed c.loop-listed.image c.loop-listed.invariant c.next_new.result c.next_new.ensures c.in-At.d c.in-At.k c.in-At.is, one_fits (decode c.args.image.now) (good_now c.args.image.now c.requires.1) (points_in c.args.points.now) c.loop-listed.last c.loop-listed.listed c.loop-listed.image c.loop-listed.invariant c.next_new.result c.next_new.ensures c.in-At.d c.in-At.k c.in-At.is c.loop-listed-test.true, not_listed (decode c.args.image.now) (good_now c.args.image.now c.requires.1) (points_in c.args.points.now) c.loop-listed.last c.loop-listed.listed c.loop-listed.image c.loop-listed.invariant c.next_new.result c.next_new.ensures c.in-At.d c.in-At.k c.in-At.is)
+list_dot-requires c = (c.loop-listed.invariant.size, c.loop-listed.invariant.canonical, list_ascends (decode c.args.image.now) (good_now c.args.image.now c.requires.1) (points_in c.args.points.now) c.loop-listed.last c.loop-listed.listed c.loop-listed.image c.loop-listed.invariant c.next_new.result c.next_new.ensures c.in-Some.d c.in-Some.k c.in-Some.is, one_fits (decode c.args.image.now) (good_now c.args.image.now c.requires.1) (points_in c.args.points.now) c.loop-listed.last c.loop-listed.listed c.loop-listed.image c.loop-listed.invariant c.next_new.result c.next_new.ensures c.in-Some.d c.in-Some.k c.in-Some.is c.loop-listed-test.true, not_listed (decode c.args.image.now) (good_now c.args.image.now c.requires.1) (points_in c.args.points.now) c.loop-listed.last c.loop-listed.listed c.loop-listed.image c.loop-listed.invariant c.next_new.result c.next_new.ensures c.in-Some.d c.in-Some.k c.in-Some.is)
 
 pub loop-listed-preserved : goal.loop-listed-preserved
-loop-listed-preserved c = one_listed (decode c.args.image.now) (good_now c.args.image.now c.requires.1) (points_in c.args.points.now) c.loop-listed.last c.loop-listed.listed c.loop-listed.image c.loop-listed.invariant c.next_new.result c.next_new.ensures c.in-At.d c.in-At.k c.in-At.is c.loop-listed-test.true _ (search rules) c.list_dot.ensures
+loop-listed-preserved c = one_listed (decode c.args.image.now) (good_now c.args.image.now c.requires.1) (points_in c.args.points.now) c.loop-listed.last c.loop-listed.listed c.loop-listed.image c.loop-listed.invariant c.next_new.result c.next_new.ensures c.in-Some.d c.in-Some.k c.in-Some.is c.loop-listed-test.true _ (search rules) c.list_dot.ensures
 
 pub returns : goal.returns
 returns c = (full (decode c.args.image.now) (good_now c.args.image.now c.requires.1) (points_in c.args.points.now) c.loop-listed.last c.loop-listed.listed c.loop-listed.image c.loop-listed.invariant c.loop-listed-test.false, c.loop-listed.invariant.canonical)

@@ -14,25 +14,25 @@ find_version-requires c = let b = c.args.b.now in
 pub remove_version-requires : goal.remove_version-requires
 remove_version-requires c = let a = c.args in
     let p = c.requires in
-    (p.0, p.1, put_inside a.b.now (decode_slot form_1 a.slot.now) c.slot_dot.ensures c.find_version.result c.find_version.ensures c.in-At.i c.in-At.is)
+    (p.0, p.1, put_inside a.b.now (decode_slot form_1 a.slot.now) c.slot_dot.ensures c.find_version.result c.find_version.ensures c.in-Ok.i c.in-Ok.is)
 
 pub insert_version-requires : goal.insert_version-requires
 insert_version-requires c = let a = c.args in
     let p = c.requires in
     let r = c.remove_version.ensures in
-    let n = one_less a.b.now (decode_slot form_1 a.slot.now) c.slot_dot.ensures c.find_version.result c.find_version.ensures c.in-At.i c.in-At.is _ r.0 in
-    let l = put_inside a.b.now (decode_slot form_1 a.slot.now) c.slot_dot.ensures c.find_version.result c.find_version.ensures c.in-At.i c.in-At.is in
+    let n = one_less a.b.now (decode_slot form_1 a.slot.now) c.slot_dot.ensures c.find_version.result c.find_version.ensures c.in-Ok.i c.in-Ok.is _ r.0 in
+    let l = put_inside a.b.now (decode_slot form_1 a.slot.now) c.slot_dot.ensures c.find_version.result c.find_version.ensures c.in-Ok.i c.in-Ok.is in
     (omega (arith, p.0), r.1, omega (arith, n, l), omega (arith, n, p.3), p.4, p.5)
 
-pub insert_version-requires-in-Before : goal.insert_version-requires-in-Before
-insert_version-requires-in-Before c = let a = c.args in
+pub insert_version-requires-in-Err : goal.insert_version-requires-in-Err
+insert_version-requires-in-Err c = let a = c.args in
     let p = c.requires in
-    (p.0, p.1, put_between a.b.now (decode_slot form_1 a.slot.now) c.slot_dot.ensures c.find_version.result c.find_version.ensures c.in-Before.i c.in-Before.is, p.3, p.4, p.5)
+    (p.0, p.1, put_between a.b.now (decode_slot form_1 a.slot.now) c.slot_dot.ensures c.find_version.result c.find_version.ensures c.in-Err.i c.in-Err.is, p.3, p.4, p.5)
 
-pub returns-in-At : goal.returns-in-At
-returns-in-At c = let a = c.args in
-    put_instead a.b.now (decode_slot form_1 a.slot.now) c.slot_dot.ensures c.find_version.result c.find_version.ensures c.in-At.i c.in-At.is _ c.remove_version.ensures.0 _ c.requires.2 c.insert_version.ensures
+pub returns-in-Ok : goal.returns-in-Ok
+returns-in-Ok c = let a = c.args in
+    put_instead a.b.now (decode_slot form_1 a.slot.now) c.slot_dot.ensures c.find_version.result c.find_version.ensures c.in-Ok.i c.in-Ok.is _ c.remove_version.ensures.0 _ c.requires.2 c.insert_version.ensures
 
-pub returns-in-Before : goal.returns-in-Before
-returns-in-Before c = let a = c.args in
-    put_before a.b.now (decode_slot form_1 a.slot.now) c.slot_dot.ensures c.find_version.result c.find_version.ensures c.in-Before.i c.in-Before.is _ c.insert_version-in-Before.ensures
+pub returns-in-Err : goal.returns-in-Err
+returns-in-Err c = let a = c.args in
+    put_before a.b.now (decode_slot form_1 a.slot.now) c.slot_dot.ensures c.find_version.result c.find_version.ensures c.in-Err.i c.in-Err.is _ c.insert_version-in-Err.ensures

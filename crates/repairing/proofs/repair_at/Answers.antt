@@ -1,4 +1,5 @@
 -- `repairing::repair_at` meets its contract (Steps). Assumes nothing.
+use Rattle.std.proofs.Common.{rules, ◌≡◌, Err}
 use mathlib.Core.Path.{ap, sym, ◌∙◌}
 use Rattle.block.proofs.Numbers.{bytes_of}
 use Rattle.layout.specs.Calls.{After}
@@ -10,17 +11,17 @@ use Rattle.repairing.proofs.repair_at.Goals as goal
 pub slice_bounds-repair_heard-end : goal.slice_bounds-repair_heard-end
 slice_bounds-repair_heard-end c = omega (arith, at_least c.args.reply.now c.requires.2)
 
-pub slice_bounds-repair_heard-count-in-Accepted : goal.slice_bounds-repair_heard-count-in-Accepted
-slice_bounds-repair_heard-count-in-Accepted c = omega (arith, at_least c.args.reply.now c.requires.2, c.requires.3)
+pub slice_bounds-repair_heard-count : goal.slice_bounds-repair_heard-count
+slice_bounds-repair_heard-count c = omega (arith, at_least c.args.reply.now c.requires.2, c.requires.3)
 
-pub slice_bounds-repair_heard-start-in-Accepted : goal.slice_bounds-repair_heard-start-in-Accepted
-slice_bounds-repair_heard-start-in-Accepted c = omega (arith, at_least c.args.reply.now c.requires.2, c.requires.3)
+pub slice_bounds-repair_heard-start : goal.slice_bounds-repair_heard-start
+slice_bounds-repair_heard-start c = omega (arith, at_least c.args.reply.now c.requires.2, c.requires.3)
 
 pub repair_heard-requires : goal.repair_heard-requires
-repair_heard-requires c = (c.requires.0, c.requires.1, lent c.args.image.now c.args.reply.now c.requires.2 (bytes_of c.args.reply.now c.type_inv.reply) (sym c.judge_reply.ensures ∙ c.in-Accepted.is) _ (rest_from c.args.reply.now c.args.at c.requires.3))
+repair_heard-requires c = (c.requires.0, c.requires.1, lent c.args.image.now c.args.reply.now c.requires.2 (bytes_of c.args.reply.now c.type_inv.reply) (sym c.judge_reply.ensures ∙ c.in_ok-judge_reply.was) _ (rest_from c.args.reply.now c.args.at c.requires.3))
 
-pub returns-in-Refused : goal.returns-in-Refused
-returns-in-Refused c = let e = not_repaired c.args.image.now c.args.reply.now c.requires.2 (bytes_of c.args.reply.now c.type_inv.reply) c.in-Refused.r (sym c.judge_reply.ensures ∙ c.in-Refused.is) in (sym (ap (λ (a : After). a.verdict) e), sym (ap (λ (a : After). a.image) e))
+pub returns-in_err-judge_reply : goal.returns-in_err-judge_reply
+returns-in_err-judge_reply c = let z : ◌≡◌ c.from_residual.result (Err c.in_err-judge_reply.field-0.0) = search rules in let e = not_repaired c.args.image.now c.args.reply.now c.requires.2 (bytes_of c.args.reply.now c.type_inv.reply) c.in_err-judge_reply.field-0.0 (sym c.judge_reply.ensures ∙ c.in_err-judge_reply.was) in (z ∙ sym (ap (λ (a : After). a.verdict) e), sym (ap (λ (a : After). a.image) e))
 
-pub returns-in-Accepted : goal.returns-in-Accepted
-returns-in-Accepted c = let e = is_repaired c.args.image.now c.args.reply.now c.requires.2 (bytes_of c.args.reply.now c.type_inv.reply) (sym c.judge_reply.ensures ∙ c.in-Accepted.is) _ (rest_from c.args.reply.now c.args.at c.requires.3) in (c.repair_heard.ensures.0 ∙ sym (ap (λ (a : After). a.verdict) e), c.repair_heard.ensures.1 ∙ sym (ap (λ (a : After). a.image) e))
+pub returns : goal.returns
+returns c = let e = is_repaired c.args.image.now c.args.reply.now c.requires.2 (bytes_of c.args.reply.now c.type_inv.reply) (sym c.judge_reply.ensures ∙ c.in_ok-judge_reply.was) _ (rest_from c.args.reply.now c.args.at c.requires.3) in (c.repair_heard.ensures.0 ∙ sym (ap (λ (a : After). a.verdict) e), c.repair_heard.ensures.1 ∙ sym (ap (λ (a : After). a.image) e))

@@ -8,10 +8,10 @@ pub returns-then-not-before : goal.returns-then-not-before
 returns-then-not-before c = not_behind c.args.last c.args.k c.args.best (sym c.before-2.ensures ∙ not-true _ c.if-not-before.true-raw)
 
 pub returns-then-before : goal.returns-then-before
-returns-then-before c = now_nearer c.args.last c.args.k (sym c.before-2.ensures ∙ not-false _ c.if-not-before.false-raw) c.args.best c.in-At.b c.in-At.is (sym c.before-in-At.ensures ∙ c.if-before.true)
+returns-then-before c = now_nearer c.args.last c.args.k (sym c.before-2.ensures ∙ not-false _ c.if-not-before.false-raw) c.args.best c.in-Some.b c.in-Some.is (sym c.before-in-Some.ensures ∙ c.if-before.true)
 
-pub returns-in-Nothing : goal.returns-in-Nothing
-returns-in-Nothing c = first_found c.args.last c.args.k (sym c.before-2.ensures ∙ not-false _ c.if-not-before.false-raw) c.args.best c.in-Nothing.is
+pub returns-in-None : goal.returns-in-None
+returns-in-None c = first_found c.args.last c.args.k (sym c.before-2.ensures ∙ not-false _ c.if-not-before.false-raw) c.args.best c.in-None.is
 
 pub returns-else-before : goal.returns-else-before
-returns-else-before c = still_nearer c.args.last c.args.k (sym c.before-2.ensures ∙ not-false _ c.if-not-before.false-raw) c.args.best c.in-At.b c.in-At.is (sym c.before-in-At.ensures ∙ c.if-before.false)
+returns-else-before c = still_nearer c.args.last c.args.k (sym c.before-2.ensures ∙ not-false _ c.if-not-before.false-raw) c.args.best c.in-Some.b c.in-Some.is (sym c.before-in-Some.ensures ∙ c.if-before.false)

@@ -15,44 +15,44 @@ loop-k-init c = none_sent (decode c.args.image.now) (decode_ask c.args.message.n
 pub overflow_cast-result : goal.overflow_cast-result
 overflow_cast-result c = omega (arith, fits_still (decode c.args.image.now) (decode_ask c.args.message.now) (good_now c.args.image.now c.requires.1) c.args.out.now c.requires.4 c.loop-k.last c.loop-k.sent c.loop-k.out c.loop-k.invariant)
 
-pub shape_of-out-in-Nothing : goal.shape_of-out-in-Nothing
-shape_of-out-in-Nothing c = as_long (decode c.args.image.now) (decode_ask c.args.message.now) (good_now c.args.image.now c.requires.1) c.args.out.now c.requires.4 c.loop-k.last c.loop-k.sent c.loop-k.out c.loop-k.invariant
+pub shape_of-out-in-None : goal.shape_of-out-in-None
+shape_of-out-in-None c = as_long (decode c.args.image.now) (decode_ask c.args.message.now) (good_now c.args.image.now c.requires.1) c.args.out.now c.requires.4 c.loop-k.last c.loop-k.sent c.loop-k.out c.loop-k.invariant
 
-pub returns-in-Nothing : goal.returns-in-Nothing
-returns-in-Nothing c = ends (decode c.args.image.now) (decode_ask c.args.message.now) (good_now c.args.image.now c.requires.1) c.args.out.now c.requires.4 c.loop-k.last c.loop-k.sent c.loop-k.out c.loop-k.invariant c.next_key.result c.next_key.ensures c.in-Nothing.is
+pub returns-in-None : goal.returns-in-None
+returns-in-None c = ends (decode c.args.image.now) (decode_ask c.args.message.now) (good_now c.args.image.now c.requires.1) c.args.out.now c.requires.4 c.loop-k.last c.loop-k.sent c.loop-k.out c.loop-k.invariant c.next_key.result c.next_key.ensures c.in-None.is
 
 pub overflow_mul-at : goal.overflow_mul-at
-overflow_mul-at c = omega (arith, c.requires.4, one_fits (decode c.args.image.now) (decode_ask c.args.message.now) (good_now c.args.image.now c.requires.1) c.args.out.now c.requires.4 c.loop-k.last c.loop-k.sent c.loop-k.out c.loop-k.invariant c.next_key.result c.next_key.ensures c.in-At.k c.in-At.is, as_long (decode c.args.image.now) (decode_ask c.args.message.now) (good_now c.args.image.now c.requires.1) c.args.out.now c.requires.4 c.loop-k.last c.loop-k.sent c.loop-k.out c.loop-k.invariant)
+overflow_mul-at c = omega (arith, c.requires.4, one_fits (decode c.args.image.now) (decode_ask c.args.message.now) (good_now c.args.image.now c.requires.1) c.args.out.now c.requires.4 c.loop-k.last c.loop-k.sent c.loop-k.out c.loop-k.invariant c.next_key.result c.next_key.ensures c.in-Some.k c.in-Some.is, as_long (decode c.args.image.now) (decode_ask c.args.message.now) (good_now c.args.image.now c.requires.1) c.args.out.now c.requires.4 c.loop-k.last c.loop-k.sent c.loop-k.out c.loop-k.invariant)
 
 pub overflow_add-at : goal.overflow_add-at
-overflow_add-at c = omega (arith, c.requires.4, one_fits (decode c.args.image.now) (decode_ask c.args.message.now) (good_now c.args.image.now c.requires.1) c.args.out.now c.requires.4 c.loop-k.last c.loop-k.sent c.loop-k.out c.loop-k.invariant c.next_key.result c.next_key.ensures c.in-At.k c.in-At.is, as_long (decode c.args.image.now) (decode_ask c.args.message.now) (good_now c.args.image.now c.requires.1) c.args.out.now c.requires.4 c.loop-k.last c.loop-k.sent c.loop-k.out c.loop-k.invariant)
+overflow_add-at c = omega (arith, c.requires.4, one_fits (decode c.args.image.now) (decode_ask c.args.message.now) (good_now c.args.image.now c.requires.1) c.args.out.now c.requires.4 c.loop-k.last c.loop-k.sent c.loop-k.out c.loop-k.invariant c.next_key.result c.next_key.ensures c.in-Some.k c.in-Some.is, as_long (decode c.args.image.now) (decode_ask c.args.message.now) (good_now c.args.image.now c.requires.1) c.args.out.now c.requires.4 c.loop-k.last c.loop-k.sent c.loop-k.out c.loop-k.invariant)
 
 pub overflow_add-sent : goal.overflow_add-sent
-overflow_add-sent c = omega (arith, c.requires.4, one_fits (decode c.args.image.now) (decode_ask c.args.message.now) (good_now c.args.image.now c.requires.1) c.args.out.now c.requires.4 c.loop-k.last c.loop-k.sent c.loop-k.out c.loop-k.invariant c.next_key.result c.next_key.ensures c.in-At.k c.in-At.is, as_long (decode c.args.image.now) (decode_ask c.args.message.now) (good_now c.args.image.now c.requires.1) c.args.out.now c.requires.4 c.loop-k.last c.loop-k.sent c.loop-k.out c.loop-k.invariant)
+overflow_add-sent c = omega (arith, c.requires.4, one_fits (decode c.args.image.now) (decode_ask c.args.message.now) (good_now c.args.image.now c.requires.1) c.args.out.now c.requires.4 c.loop-k.last c.loop-k.sent c.loop-k.out c.loop-k.invariant c.next_key.result c.next_key.ensures c.in-Some.k c.in-Some.is, as_long (decode c.args.image.now) (decode_ask c.args.message.now) (good_now c.args.image.now c.requires.1) c.args.out.now c.requires.4 c.loop-k.last c.loop-k.sent c.loop-k.out c.loop-k.invariant)
 
 pub overflow_cast-sent : goal.overflow_cast-sent
-overflow_cast-sent c = omega (arith, c.requires.4, one_fits (decode c.args.image.now) (decode_ask c.args.message.now) (good_now c.args.image.now c.requires.1) c.args.out.now c.requires.4 c.loop-k.last c.loop-k.sent c.loop-k.out c.loop-k.invariant c.next_key.result c.next_key.ensures c.in-At.k c.in-At.is, as_long (decode c.args.image.now) (decode_ask c.args.message.now) (good_now c.args.image.now c.requires.1) c.args.out.now c.requires.4 c.loop-k.last c.loop-k.sent c.loop-k.out c.loop-k.invariant)
+overflow_cast-sent c = omega (arith, c.requires.4, one_fits (decode c.args.image.now) (decode_ask c.args.message.now) (good_now c.args.image.now c.requires.1) c.args.out.now c.requires.4 c.loop-k.last c.loop-k.sent c.loop-k.out c.loop-k.invariant c.next_key.result c.next_key.ensures c.in-Some.k c.in-Some.is, as_long (decode c.args.image.now) (decode_ask c.args.message.now) (good_now c.args.image.now c.requires.1) c.args.out.now c.requires.4 c.loop-k.last c.loop-k.sent c.loop-k.out c.loop-k.invariant)
 
-pub overflow_add-at-in-At : goal.overflow_add-at-in-At
-overflow_add-at-in-At c = omega (arith, c.requires.4, one_fits (decode c.args.image.now) (decode_ask c.args.message.now) (good_now c.args.image.now c.requires.1) c.args.out.now c.requires.4 c.loop-k.last c.loop-k.sent c.loop-k.out c.loop-k.invariant c.next_key.result c.next_key.ensures c.in-At.k c.in-At.is, as_long (decode c.args.image.now) (decode_ask c.args.message.now) (good_now c.args.image.now c.requires.1) c.args.out.now c.requires.4 c.loop-k.last c.loop-k.sent c.loop-k.out c.loop-k.invariant)
+pub overflow_add-at-in-Some : goal.overflow_add-at-in-Some
+overflow_add-at-in-Some c = omega (arith, c.requires.4, one_fits (decode c.args.image.now) (decode_ask c.args.message.now) (good_now c.args.image.now c.requires.1) c.args.out.now c.requires.4 c.loop-k.last c.loop-k.sent c.loop-k.out c.loop-k.invariant c.next_key.result c.next_key.ensures c.in-Some.k c.in-Some.is, as_long (decode c.args.image.now) (decode_ask c.args.message.now) (good_now c.args.image.now c.requires.1) c.args.out.now c.requires.4 c.loop-k.last c.loop-k.sent c.loop-k.out c.loop-k.invariant)
 
 pub slice_bounds-write_point-count : goal.slice_bounds-write_point-count
-slice_bounds-write_point-count c = omega (arith, c.requires.4, one_fits (decode c.args.image.now) (decode_ask c.args.message.now) (good_now c.args.image.now c.requires.1) c.args.out.now c.requires.4 c.loop-k.last c.loop-k.sent c.loop-k.out c.loop-k.invariant c.next_key.result c.next_key.ensures c.in-At.k c.in-At.is, as_long (decode c.args.image.now) (decode_ask c.args.message.now) (good_now c.args.image.now c.requires.1) c.args.out.now c.requires.4 c.loop-k.last c.loop-k.sent c.loop-k.out c.loop-k.invariant)
+slice_bounds-write_point-count c = omega (arith, c.requires.4, one_fits (decode c.args.image.now) (decode_ask c.args.message.now) (good_now c.args.image.now c.requires.1) c.args.out.now c.requires.4 c.loop-k.last c.loop-k.sent c.loop-k.out c.loop-k.invariant c.next_key.result c.next_key.ensures c.in-Some.k c.in-Some.is, as_long (decode c.args.image.now) (decode_ask c.args.message.now) (good_now c.args.image.now c.requires.1) c.args.out.now c.requires.4 c.loop-k.last c.loop-k.sent c.loop-k.out c.loop-k.invariant)
 
 pub slice_bounds-write_point-start : goal.slice_bounds-write_point-start
-slice_bounds-write_point-start c = omega (arith, c.requires.4, one_fits (decode c.args.image.now) (decode_ask c.args.message.now) (good_now c.args.image.now c.requires.1) c.args.out.now c.requires.4 c.loop-k.last c.loop-k.sent c.loop-k.out c.loop-k.invariant c.next_key.result c.next_key.ensures c.in-At.k c.in-At.is, as_long (decode c.args.image.now) (decode_ask c.args.message.now) (good_now c.args.image.now c.requires.1) c.args.out.now c.requires.4 c.loop-k.last c.loop-k.sent c.loop-k.out c.loop-k.invariant)
+slice_bounds-write_point-start c = omega (arith, c.requires.4, one_fits (decode c.args.image.now) (decode_ask c.args.message.now) (good_now c.args.image.now c.requires.1) c.args.out.now c.requires.4 c.loop-k.last c.loop-k.sent c.loop-k.out c.loop-k.invariant c.next_key.result c.next_key.ensures c.in-Some.k c.in-Some.is, as_long (decode c.args.image.now) (decode_ask c.args.message.now) (good_now c.args.image.now c.requires.1) c.args.out.now c.requires.4 c.loop-k.last c.loop-k.sent c.loop-k.out c.loop-k.invariant)
 
 pub slice_bounds-write_point-end : goal.slice_bounds-write_point-end
-slice_bounds-write_point-end c = omega (arith, c.requires.4, one_fits (decode c.args.image.now) (decode_ask c.args.message.now) (good_now c.args.image.now c.requires.1) c.args.out.now c.requires.4 c.loop-k.last c.loop-k.sent c.loop-k.out c.loop-k.invariant c.next_key.result c.next_key.ensures c.in-At.k c.in-At.is, as_long (decode c.args.image.now) (decode_ask c.args.message.now) (good_now c.args.image.now c.requires.1) c.args.out.now c.requires.4 c.loop-k.last c.loop-k.sent c.loop-k.out c.loop-k.invariant)
+slice_bounds-write_point-end c = omega (arith, c.requires.4, one_fits (decode c.args.image.now) (decode_ask c.args.message.now) (good_now c.args.image.now c.requires.1) c.args.out.now c.requires.4 c.loop-k.last c.loop-k.sent c.loop-k.out c.loop-k.invariant c.next_key.result c.next_key.ensures c.in-Some.k c.in-Some.is, as_long (decode c.args.image.now) (decode_ask c.args.message.now) (good_now c.args.image.now c.requires.1) c.args.out.now c.requires.4 c.loop-k.last c.loop-k.sent c.loop-k.out c.loop-k.invariant)
 
 pub write_point-requires : goal.write_point-requires
-write_point-requires c = (c.requires.0, c.requires.1, counted c.args.image.now c.stored_count-count.result c.stored_count-count.ensures, omega (arith, c.requires.4, one_fits (decode c.args.image.now) (decode_ask c.args.message.now) (good_now c.args.image.now c.requires.1) c.args.out.now c.requires.4 c.loop-k.last c.loop-k.sent c.loop-k.out c.loop-k.invariant c.next_key.result c.next_key.ensures c.in-At.k c.in-At.is, as_long (decode c.args.image.now) (decode_ask c.args.message.now) (good_now c.args.image.now c.requires.1) c.args.out.now c.requires.4 c.loop-k.last c.loop-k.sent c.loop-k.out c.loop-k.invariant))
+write_point-requires c = (c.requires.0, c.requires.1, counted c.args.image.now c.stored_count-count.result c.stored_count-count.ensures, omega (arith, c.requires.4, one_fits (decode c.args.image.now) (decode_ask c.args.message.now) (good_now c.args.image.now c.requires.1) c.args.out.now c.requires.4 c.loop-k.last c.loop-k.sent c.loop-k.out c.loop-k.invariant c.next_key.result c.next_key.ensures c.in-Some.k c.in-Some.is, as_long (decode c.args.image.now) (decode_ask c.args.message.now) (good_now c.args.image.now c.requires.1) c.args.out.now c.requires.4 c.loop-k.last c.loop-k.sent c.loop-k.out c.loop-k.invariant))
 
-pub overflow_add-sent-in-At : goal.overflow_add-sent-in-At
-overflow_add-sent-in-At c = omega (arith, c.requires.4, one_fits (decode c.args.image.now) (decode_ask c.args.message.now) (good_now c.args.image.now c.requires.1) c.args.out.now c.requires.4 c.loop-k.last c.loop-k.sent c.loop-k.out c.loop-k.invariant c.next_key.result c.next_key.ensures c.in-At.k c.in-At.is, as_long (decode c.args.image.now) (decode_ask c.args.message.now) (good_now c.args.image.now c.requires.1) c.args.out.now c.requires.4 c.loop-k.last c.loop-k.sent c.loop-k.out c.loop-k.invariant)
+pub overflow_add-sent-in-Some : goal.overflow_add-sent-in-Some
+overflow_add-sent-in-Some c = omega (arith, c.requires.4, one_fits (decode c.args.image.now) (decode_ask c.args.message.now) (good_now c.args.image.now c.requires.1) c.args.out.now c.requires.4 c.loop-k.last c.loop-k.sent c.loop-k.out c.loop-k.invariant c.next_key.result c.next_key.ensures c.in-Some.k c.in-Some.is, as_long (decode c.args.image.now) (decode_ask c.args.message.now) (good_now c.args.image.now c.requires.1) c.args.out.now c.requires.4 c.loop-k.last c.loop-k.sent c.loop-k.out c.loop-k.invariant)
 
 pub loop-k-smaller : goal.loop-k-smaller
-loop-k-smaller c = omega (arith, c.requires.4, one_fits (decode c.args.image.now) (decode_ask c.args.message.now) (good_now c.args.image.now c.requires.1) c.args.out.now c.requires.4 c.loop-k.last c.loop-k.sent c.loop-k.out c.loop-k.invariant c.next_key.result c.next_key.ensures c.in-At.k c.in-At.is, as_long (decode c.args.image.now) (decode_ask c.args.message.now) (good_now c.args.image.now c.requires.1) c.args.out.now c.requires.4 c.loop-k.last c.loop-k.sent c.loop-k.out c.loop-k.invariant)
+loop-k-smaller c = omega (arith, c.requires.4, one_fits (decode c.args.image.now) (decode_ask c.args.message.now) (good_now c.args.image.now c.requires.1) c.args.out.now c.requires.4 c.loop-k.last c.loop-k.sent c.loop-k.out c.loop-k.invariant c.next_key.result c.next_key.ensures c.in-Some.k c.in-Some.is, as_long (decode c.args.image.now) (decode_ask c.args.message.now) (good_now c.args.image.now c.requires.1) c.args.out.now c.requires.4 c.loop-k.last c.loop-k.sent c.loop-k.out c.loop-k.invariant)
 
 pub loop-k-preserved : goal.loop-k-preserved
-loop-k-preserved c = one_sent (decode c.args.image.now) (decode_ask c.args.message.now) (good_now c.args.image.now c.requires.1) c.args.out.now c.requires.4 c.loop-k.last c.loop-k.sent c.loop-k.out c.loop-k.invariant c.next_key.result c.next_key.ensures c.in-At.k c.in-At.is _ _ (search rules) c.write_point.ensures refl
+loop-k-preserved c = one_sent (decode c.args.image.now) (decode_ask c.args.message.now) (good_now c.args.image.now c.requires.1) c.args.out.now c.requires.4 c.loop-k.last c.loop-k.sent c.loop-k.out c.loop-k.invariant c.next_key.result c.next_key.ensures c.in-Some.k c.in-Some.is _ _ (search rules) c.write_point.ensures refl

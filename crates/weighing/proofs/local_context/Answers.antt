@@ -1,7 +1,6 @@
 -- `weighing::local_context` meets its contract. By the record that was found, or by none (Contexts). Assumes nothing.
 use Rattle.block.proofs.Numbers.{bytes_of}
 use Rattle.layout.specs.Image.{decode}
-use Rattle.dots.specs.declared.Found.TheVariants.{At, Before}
 use Rattle.image_edits.proofs.Blocks.{image_decoded}
 use Rattle.image_edits.proofs.Fetching.{search_ascends, search_few}
 use Rattle.store.proofs.Resulting.{found_is}
@@ -9,27 +8,28 @@ use Rattle.store.proofs.Record.{record_none, no_entries}
 use Rattle.weighing.proofs.Contexts.{local_is, found_context}
 use native.Mathlib.Omega.{arith}
 use Rattle.weighing.proofs.local_context.Goals as goal
+use Rattle.std.specs.Prelude.{Ok, Err}
 
 pub find_point-requires : goal.find_point-requires
 find_point-requires c = (c.requires.0, search_few c.args.image.now (bytes_of c.args.image.now c.type_inv.image) c.requires.0 c.requires.1 c.args.count c.requires.2, search_ascends c.args.image.now (bytes_of c.args.image.now c.type_inv.image) c.requires.0 c.requires.1 c.args.count c.requires.2 c.requires.3)
 
 pub overflow_add-at : goal.overflow_add-at
-overflow_add-at c = omega (arith, c.requires.0, (found_is c.args.image.now (bytes_of c.args.image.now c.type_inv.image) c.requires.0 c.requires.1 c.args.count c.requires.2 c.args.k c.find_point.result c.find_point.ensures (At c.in-At.i) c.in-At.is).0, (image_decoded c.args.image.now (bytes_of c.args.image.now c.type_inv.image) c.requires.0).few)
+overflow_add-at c = omega (arith, c.requires.0, (found_is c.args.image.now (bytes_of c.args.image.now c.type_inv.image) c.requires.0 c.requires.1 c.args.count c.requires.2 c.args.k c.find_point.result c.find_point.ensures (Ok c.in-Ok.i) c.in-Ok.is).0, (image_decoded c.args.image.now (bytes_of c.args.image.now c.type_inv.image) c.requires.0).few)
 
 pub overflow_mul-at : goal.overflow_mul-at
-overflow_mul-at c = omega (arith, c.requires.0, (found_is c.args.image.now (bytes_of c.args.image.now c.type_inv.image) c.requires.0 c.requires.1 c.args.count c.requires.2 c.args.k c.find_point.result c.find_point.ensures (At c.in-At.i) c.in-At.is).0, (image_decoded c.args.image.now (bytes_of c.args.image.now c.type_inv.image) c.requires.0).few)
+overflow_mul-at c = omega (arith, c.requires.0, (found_is c.args.image.now (bytes_of c.args.image.now c.type_inv.image) c.requires.0 c.requires.1 c.args.count c.requires.2 c.args.k c.find_point.result c.find_point.ensures (Ok c.in-Ok.i) c.in-Ok.is).0, (image_decoded c.args.image.now (bytes_of c.args.image.now c.type_inv.image) c.requires.0).few)
 
-pub overflow_add-at-in-At : goal.overflow_add-at-in-At
-overflow_add-at-in-At c = omega (arith, c.requires.0, (found_is c.args.image.now (bytes_of c.args.image.now c.type_inv.image) c.requires.0 c.requires.1 c.args.count c.requires.2 c.args.k c.find_point.result c.find_point.ensures (At c.in-At.i) c.in-At.is).0, (image_decoded c.args.image.now (bytes_of c.args.image.now c.type_inv.image) c.requires.0).few)
+pub overflow_add-at-in-Ok : goal.overflow_add-at-in-Ok
+overflow_add-at-in-Ok c = omega (arith, c.requires.0, (found_is c.args.image.now (bytes_of c.args.image.now c.type_inv.image) c.requires.0 c.requires.1 c.args.count c.requires.2 c.args.k c.find_point.result c.find_point.ensures (Ok c.in-Ok.i) c.in-Ok.is).0, (image_decoded c.args.image.now (bytes_of c.args.image.now c.type_inv.image) c.requires.0).few)
 
-pub overflow_add-at-in-At-2 : goal.overflow_add-at-in-At-2
-overflow_add-at-in-At-2 c = omega (arith, c.requires.0, (found_is c.args.image.now (bytes_of c.args.image.now c.type_inv.image) c.requires.0 c.requires.1 c.args.count c.requires.2 c.args.k c.find_point.result c.find_point.ensures (At c.in-At.i) c.in-At.is).0, (image_decoded c.args.image.now (bytes_of c.args.image.now c.type_inv.image) c.requires.0).few)
+pub overflow_add-at-in-Ok-2 : goal.overflow_add-at-in-Ok-2
+overflow_add-at-in-Ok-2 c = omega (arith, c.requires.0, (found_is c.args.image.now (bytes_of c.args.image.now c.type_inv.image) c.requires.0 c.requires.1 c.args.count c.requires.2 c.args.k c.find_point.result c.find_point.ensures (Ok c.in-Ok.i) c.in-Ok.is).0, (image_decoded c.args.image.now (bytes_of c.args.image.now c.type_inv.image) c.requires.0).few)
 
 pub slice_bounds-filled_context-end : goal.slice_bounds-filled_context-end
-slice_bounds-filled_context-end c = omega (arith, c.requires.0, (found_is c.args.image.now (bytes_of c.args.image.now c.type_inv.image) c.requires.0 c.requires.1 c.args.count c.requires.2 c.args.k c.find_point.result c.find_point.ensures (At c.in-At.i) c.in-At.is).0, (image_decoded c.args.image.now (bytes_of c.args.image.now c.type_inv.image) c.requires.0).few)
+slice_bounds-filled_context-end c = omega (arith, c.requires.0, (found_is c.args.image.now (bytes_of c.args.image.now c.type_inv.image) c.requires.0 c.requires.1 c.args.count c.requires.2 c.args.k c.find_point.result c.find_point.ensures (Ok c.in-Ok.i) c.in-Ok.is).0, (image_decoded c.args.image.now (bytes_of c.args.image.now c.type_inv.image) c.requires.0).few)
 
-pub returns-in-At : goal.returns-in-At
-returns-in-At c = (local_is c.args.image.now c.requires.0 c.args.k _ (found_context c.args.image.now (bytes_of c.args.image.now c.type_inv.image) c.requires.0 c.requires.1 c.requires.3 c.args.k c.in-At.i (found_is c.args.image.now (bytes_of c.args.image.now c.type_inv.image) c.requires.0 c.requires.1 c.args.count c.requires.2 c.args.k c.find_point.result c.find_point.ensures (At c.in-At.i) c.in-At.is)) _ c.filled_context.ensures.0, c.filled_context.ensures.1)
+pub returns-in-Ok : goal.returns-in-Ok
+returns-in-Ok c = (local_is c.args.image.now c.requires.0 c.args.k _ (found_context c.args.image.now (bytes_of c.args.image.now c.type_inv.image) c.requires.0 c.requires.1 c.requires.3 c.args.k c.in-Ok.i (found_is c.args.image.now (bytes_of c.args.image.now c.type_inv.image) c.requires.0 c.requires.1 c.args.count c.requires.2 c.args.k c.find_point.result c.find_point.ensures (Ok c.in-Ok.i) c.in-Ok.is)) _ c.filled_context.ensures.0, c.filled_context.ensures.1)
 
-pub returns-in-Before : goal.returns-in-Before
-returns-in-Before c = (local_is c.args.image.now c.requires.0 c.args.k _ (no_entries c.args.image.now c.args.k (record_none c.args.k (decode c.args.image.now).points c.in-Before.field-0 (found_is c.args.image.now (bytes_of c.args.image.now c.type_inv.image) c.requires.0 c.requires.1 c.args.count c.requires.2 c.args.k c.find_point.result c.find_point.ensures (Before c.in-Before.field-0) c.in-Before.is))) _ c.filled_context-in-Before.ensures.0, c.filled_context-in-Before.ensures.1)
+pub returns-in-Err : goal.returns-in-Err
+returns-in-Err c = (local_is c.args.image.now c.requires.0 c.args.k _ (no_entries c.args.image.now c.args.k (record_none c.args.k (decode c.args.image.now).points c.in-Err.field-0 (found_is c.args.image.now (bytes_of c.args.image.now c.type_inv.image) c.requires.0 c.requires.1 c.args.count c.requires.2 c.args.k c.find_point.result c.find_point.ensures (Err c.in-Err.field-0) c.in-Err.is))) _ c.filled_context-in-Err.ensures.0, c.filled_context-in-Err.ensures.1)

@@ -6,7 +6,6 @@ use Rattle.image.specs.Places.{PointIn}
 use Rattle.image.specs.Apart.{point_at}
 use Rattle.block.proofs.Numbers.{bytes_of}
 use Rattle.layout.specs.Image.{decode}
-use Rattle.dots.specs.declared.Found.TheVariants.{At, Before}
 use Rattle.layout.specs.Clocks.{decode_clock}
 use Rattle.image_edits.proofs.Fetching.{search_ascends, search_few}
 use Rattle.store.proofs.Lent.{good_now, good_ascends, good_canonical}
@@ -16,6 +15,7 @@ use Rattle.weighing.specs.Weighed.{key_in}
 use Rattle.weighing.proofs.Takings.{by_crew}
 use Rattle.weighing.proofs.Judging.{few_sent, has_its_place, place_asked}
 use Rattle.weighing.proofs.needs_place.Goals as goal
+use Rattle.std.specs.Prelude.{Ok, Err}
 
 pub find_point-requires : goal.find_point-requires
 find_point-requires c = (c.requires.0, search_few c.args.image.now (bytes_of c.args.image.now c.type_inv.image) c.requires.0 (good_canonical c.args.image.now c.requires.1) c.args.count c.requires.2, search_ascends c.args.image.now (bytes_of c.args.image.now c.type_inv.image) c.requires.0 (good_canonical c.args.image.now c.requires.1) c.args.count c.requires.2 (good_ascends c.args.image.now c.requires.1))
@@ -23,8 +23,8 @@ find_point-requires c = (c.requires.0, search_few c.args.image.now (bytes_of c.a
 pub goes_alone-requires : goal.goes_alone-requires
 goes_alone-requires c = (c.requires.3.0, few_sent c.args.m.now (bytes_of c.args.m.now c.type_inv.m) c.requires.3.0 c.requires.3.1, by_crew (decode c.args.image.now) (good_now c.args.image.now c.requires.1) (key_in c.args.m.now) (theirs c.args.m.now c.args.there.now) c.requires.3.5, c.requires.3.2, c.requires.3.4, c.requires.4)
 
-pub returns-in-At : goal.returns-in-At
-returns-in-At c = has_its_place c.args.image.now (bytes_of c.args.image.now c.type_inv.image) c.requires.0 c.requires.1 c.args.m.now c.args.here.now c.args.there.now (bytes_of c.args.m.now c.type_inv.m) c.requires.3 c.in-At.field-0 (found_is c.args.image.now (bytes_of c.args.image.now c.type_inv.image) c.requires.0 (good_canonical c.args.image.now c.requires.1) c.args.count c.requires.2 (key_in c.args.m.now) c.find_point.result (subst (λ (x : Key). PointIn (upto c.args.count (point_at c.args.image.now)) x c.find_point.result) c.key_of.ensures c.find_point.ensures) (At c.in-At.field-0) c.in-At.is) (decode_clock c.args.rows.now)
+pub returns-in-Ok : goal.returns-in-Ok
+returns-in-Ok c = has_its_place c.args.image.now (bytes_of c.args.image.now c.type_inv.image) c.requires.0 c.requires.1 c.args.m.now c.args.here.now c.args.there.now (bytes_of c.args.m.now c.type_inv.m) c.requires.3 c.in-Ok.field-0 (found_is c.args.image.now (bytes_of c.args.image.now c.type_inv.image) c.requires.0 (good_canonical c.args.image.now c.requires.1) c.args.count c.requires.2 (key_in c.args.m.now) c.find_point.result (subst (λ (x : Key). PointIn (upto c.args.count (point_at c.args.image.now)) x c.find_point.result) c.key_of.ensures c.find_point.ensures) (Ok c.in-Ok.field-0) c.in-Ok.is) (decode_clock c.args.rows.now)
 
-pub returns-in-Before : goal.returns-in-Before
-returns-in-Before c = place_asked c.args.image.now (bytes_of c.args.image.now c.type_inv.image) c.requires.0 c.requires.1 c.args.m.now c.args.here.now c.args.there.now (bytes_of c.args.m.now c.type_inv.m) c.requires.3 c.in-Before.field-0 (found_is c.args.image.now (bytes_of c.args.image.now c.type_inv.image) c.requires.0 (good_canonical c.args.image.now c.requires.1) c.args.count c.requires.2 (key_in c.args.m.now) c.find_point.result (subst (λ (x : Key). PointIn (upto c.args.count (point_at c.args.image.now)) x c.find_point.result) c.key_of.ensures c.find_point.ensures) (Before c.in-Before.field-0) c.in-Before.is) (decode_clock c.args.rows.now) c.goes_alone.result c.goes_alone.ensures
+pub returns-in-Err : goal.returns-in-Err
+returns-in-Err c = place_asked c.args.image.now (bytes_of c.args.image.now c.type_inv.image) c.requires.0 c.requires.1 c.args.m.now c.args.here.now c.args.there.now (bytes_of c.args.m.now c.type_inv.m) c.requires.3 c.in-Err.field-0 (found_is c.args.image.now (bytes_of c.args.image.now c.type_inv.image) c.requires.0 (good_canonical c.args.image.now c.requires.1) c.args.count c.requires.2 (key_in c.args.m.now) c.find_point.result (subst (λ (x : Key). PointIn (upto c.args.count (point_at c.args.image.now)) x c.find_point.result) c.key_of.ensures c.find_point.ensures) (Err c.in-Err.field-0) c.in-Err.is) (decode_clock c.args.rows.now) c.goes_alone.result c.goes_alone.ensures
