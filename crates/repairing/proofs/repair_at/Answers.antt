@@ -11,11 +11,11 @@ use Rattle.repairing.proofs.repair_at.Goals as goal
 pub slice_bounds-repair_heard-end : goal.slice_bounds-repair_heard-end
 slice_bounds-repair_heard-end c = omega (arith, at_least c.args.reply.now c.requires.2)
 
-pub slice_bounds-repair_heard-count : goal.slice_bounds-repair_heard-count
-slice_bounds-repair_heard-count c = omega (arith, at_least c.args.reply.now c.requires.2, c.requires.3)
+pub slice_bounds-repair_heard-count-2 : goal.slice_bounds-repair_heard-count-2
+slice_bounds-repair_heard-count-2 c = omega (arith, at_least c.args.reply.now c.requires.2, c.requires.3)
 
-pub slice_bounds-repair_heard-start : goal.slice_bounds-repair_heard-start
-slice_bounds-repair_heard-start c = omega (arith, at_least c.args.reply.now c.requires.2, c.requires.3)
+pub slice_bounds-repair_heard-start-2 : goal.slice_bounds-repair_heard-start-2
+slice_bounds-repair_heard-start-2 c = omega (arith, at_least c.args.reply.now c.requires.2, c.requires.3)
 
 pub repair_heard-requires : goal.repair_heard-requires
 repair_heard-requires c = (c.requires.0, c.requires.1, lent c.args.image.now c.args.reply.now c.requires.2 (bytes_of c.args.reply.now c.type_inv.reply) (sym c.judge_reply.ensures ∙ c.in_ok-judge_reply.was) _ (rest_from c.args.reply.now c.args.at c.requires.3))

@@ -4,4 +4,4 @@ use Rattle.refusal.specs.Refusal.{answer_number}
 use Rattle.sqimrutta.proofs.sqimrutta_delete.Goals as goal
 
 pub returns : goal.returns
-returns c = (c.number.ensures ∙ ap answer_number c.delete.ensures.0, c.delete.ensures.1, c.delete.ensures.2)
+returns c = (c.answer_number.ensures ∙ ap answer_number c.delete.ensures.0, c.delete.ensures.1, c.delete.ensures.2)

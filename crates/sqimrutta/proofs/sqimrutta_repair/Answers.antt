@@ -4,4 +4,4 @@ use Rattle.refusal.specs.Refusal.{answer_number}
 use Rattle.sqimrutta.proofs.sqimrutta_repair.Goals as goal
 
 pub returns : goal.returns
-returns c = (c.number.ensures ∙ ap answer_number c.repair.ensures.0, c.repair.ensures.1)
+returns c = (c.answer_number.ensures ∙ ap answer_number c.repair.ensures.0, c.repair.ensures.1)

@@ -4,4 +4,4 @@ use Rattle.refusal.specs.Refusal.{answer_number}
 use Rattle.sqimrutta.proofs.sqimrutta_strip_pass.Goals as goal
 
 pub returns : goal.returns
-returns c = let e = c.strip_pass-t.ensures in (c.number.ensures ∙ ap answer_number e.0, e.1, e.2)
+returns c = let e = c.strip_pass.ensures in (c.told.ensures.number ∙ ap answer_number e.0, e.1, c.told.ensures.count ∙ e.2)

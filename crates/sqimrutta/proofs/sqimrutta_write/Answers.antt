@@ -4,4 +4,4 @@ use Rattle.refusal.specs.Refusal.{answer_number}
 use Rattle.sqimrutta.proofs.sqimrutta_write.Goals as goal
 
 pub returns : goal.returns
-returns c = (c.number.ensures ∙ ap answer_number c.write.ensures.0, c.write.ensures.1, c.write.ensures.2)
+returns c = (c.answer_number.ensures ∙ ap answer_number c.write.ensures.0, c.write.ensures.1, c.write.ensures.2)
