@@ -6,8 +6,6 @@ pub mod Content
 pub mod Same
 pub mod Halves
 pub mod Summing
-pub mod Copies
-pub mod Moves
 pub mod Edits
 pub mod Resealed
 pub mod Places

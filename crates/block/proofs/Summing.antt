@@ -1,16 +1,16 @@
 -- The check as a loop sums it, with one remainder at the end, and as it is written. Assumes nothing.
-use Prim.Native.Nat.{ℕ, zero, suc, ◌+◌, ◌*◌, ◌%◌, ◌≤◌, ◌<◌}
+use Prim.Native.Nat.{ℕ, ◌+◌, ◌*◌, ◌%◌, ◌<◌}
 use mathlib.Core.Path.{◌≡◌, ap, sym, ◌∙◌}
 use mathlib.Core.List.{List, [], ◌∷◌, ◌++◌, append-nil}
-use native.Mathlib.Nat.{mod-add-mod, add-mod, zero-add, suc-add}
+use native.Mathlib.Nat.{mod-add-mod, add-mod}
 use native.Mathlib.Omega.{arith}
-use lib.ListN.{length, take, drop, length-take, length-drop, drop_of_length-le}
+use lib.ListN.{length, take, drop, length-drop, drop_of_length-le}
 use lib.Seq.{take-take}
 use Rattle.block.specs.declared.Sums.{Sums}
 use Rattle.block.specs.Fields.{le, number, splice, field}
 use Rattle.block.specs.Check.{add_word, sums_from, sums, seal}
 use Rattle.block.proofs.Numbers.{le_length}
-use Rattle.block.proofs.Parts.{cut_cut, splice_append}
+use Rattle.block.proofs.Parts.{splice_append}
 use Rattle.block.proofs.Checked.{sums_bound}
 
 -- plain sums, with the remainder taken
@@ -24,32 +24,31 @@ reduce_later s t w =
     let q = ap (λ (r : ℕ). (t % 65535 + r) % 65535) p ∙ sym (add-mod t (s + w) 65535) in
     λ i. record { s1 = p i; s2 = q i }
 
--- the word at k is the next one
-word_next : (s : Sums) (l : List ℕ) (k : ℕ) → k + 2 ≤ length l → sums_from s (drop k l) ≡ sums_from (add_word s (field l k 2)) (drop (k + 2) l)
+-- the two bytes in front are the next word
+word_first : (s : Sums) (x l : List ℕ) → length x ≡ 2 → sums_from s (x ++ l) ≡ sums_from (add_word s (field x 0 2)) l
 unfolding sums_from field number
-word_next s [] k h = absurd (omega arith)
-word_next s (a ∷ []) zero h = absurd (omega arith)
-word_next s (a ∷ b ∷ l) zero h =
-    let e : a + 256 * b ≡ a + 256 * (b + 256 * 0) = omega arith in
-    ap (λ (w : ℕ). sums_from (add_word s w) l) e
-word_next s (a ∷ l) (suc k) h = rw (suc-add k 2) (word_next s l k (omega arith))
+word_first s [] l e = absurd (omega arith)
+word_first s (a ∷ []) l e = absurd (omega arith)
+word_first s (a ∷ b ∷ []) l e =
+    let q : a + 256 * b ≡ a + 256 * (b + 256 * 0) = omega arith in
+    ap (λ (w : ℕ). sums_from (add_word s w) l) q
+word_first s (a ∷ b ∷ c ∷ x) l e = absurd (omega arith)
 
 module _ (b : List ℕ) where
-  -- a turn of the loop, with the word w at k
-  pub sums_on : (k s t : ℕ) {w : ℕ} → k + 2 ≤ 508 → 508 ≤ length b → w ≡ field b k 2 → sums_from (reduced s t) (drop k (take 508 b)) ≡ sums b
-      → sums_from (reduced (s + w) (t + (s + w))) (drop (k + 2) (take 508 b)) ≡ sums b
-  unfolding field
-  sums_on k s t {w} h l e p =
-      let here : field (take 508 b) k 2 ≡ w = ap number (rw zero-add at (cut_cut b 0 508 k 2 h)) ∙ sym e in
-      ap (λ (u : Sums). sums_from u (drop (k + 2) (take 508 b))) (sym (reduce_later s t w) ∙ ap (add_word (reduced s t)) (sym here))
-      ∙ sym (word_next (reduced s t) (take 508 b) k (simp length-take (omega arith)))
-      ∙ p
+  -- a turn of the loop, with the word w of the two bytes x in front of the rest
+  pub sums_more : (s t : ℕ) {w : ℕ} {l : List ℕ} (x r : List ℕ) → l ≡ x ++ r → length x ≡ 2 → w ≡ field x 0 2 → sums_from (reduced s t) l ≡ sums b → sums_from (reduced (s + w) (t + (s + w))) r ≡ sums b
+  sums_more s t {w} {l} x r p size e q =
+      ap (λ (u : Sums). sums_from u r) (sym (reduce_later s t w) ∙ ap (add_word (reduced s t)) e)
+      ∙ sym (word_first (reduced s t) x r size)
+      ∙ ap (sums_from (reduced s t)) (sym p)
+      ∙ q
 
-  pub sums_end : (k s t : ℕ) → 508 ≤ k → sums_from (reduced s t) (drop k (take 508 b)) ≡ sums b → reduced s t ≡ sums b
+  -- no word is left
+  pub sums_all : (s t : ℕ) (l : List ℕ) → length l < 2 → sums_from (reduced s t) l ≡ sums b → reduced s t ≡ sums b
   unfolding sums_from
-  sums_end k s t h p =
-      let none : drop k (take 508 b) ≡ [] = drop_of_length-le (take 508 b) {i = k} (simp length-take (omega arith)) in
-      rw none at p
+  sums_all s t [] h p = p
+  sums_all s t (x ∷ []) h p = p
+  sums_all s t (x ∷ y ∷ l) h p = absurd (omega arith)
 
   pub sums_small : {s : Sums} → s ≡ sums b → (s.s1 < 65535) × (s.s2 < 65535)
   sums_small e = rw e (sums_bound b)

@@ -1,5 +1,5 @@
 -- "Blocks of 512 bytes": what all kinds have in common, and blocks one after the other. Assumes nothing.
-use Rattle.std.specs.Prelude.{ℕ, ◌*◌, ◌/◌, Bool, List, ◌++◌, ◌≡◌, length, take}
+use Rattle.std.specs.Prelude.{ℕ, ◌*◌, ◌/◌, List, ◌++◌, ◌≡◌, length, take}
 use Rattle.block.specs.Fields.{le, cut, splice, pad, upto}
 use Rattle.block.specs.Check.{seal}
 

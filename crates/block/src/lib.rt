@@ -81,11 +81,9 @@ pub fn sums_of(b: &[u8]) -> Sums
 {
     let mut s1: u32 = 0;
     let mut s2: u32 = 0;
-    let mut i: usize = 0;
-    while i < 508 {
-        s1 += u16_at(b, i) as u32;
+    for word in b[..508].chunks_exact(2) {
+        s1 += u16_at(word, 0) as u32;
         s2 += s1;
-        i += 2;
     }
     Sums {
         s1: s1 % 65535,
@@ -112,48 +110,20 @@ pub fn seal_block(b: &mut [u8])
     put_u16(b, 510, s.s2 as u16);
 }
 
-// Whether the bytes from `from` to before `to` are zero: eight at a time, as one number, while there are eight; then one by one.
+// Whether the bytes from `from` to before `to` are zero. `|` takes all of them and not only those up to the first that is not: so the compiler
+// tests sixteen at a time, where `all` goes one by one.
 pub fn is_zero(b: &[u8], from: usize, to: usize) -> bool
     requires { (from ≤ to) × (to ≤ length b.now) }
     ensures { result ≡ all? (λ x. eqb x 0) (cut b.now from (to - from)) }
 {
-    let mut i = from;
-    while 8 <= to - i {
-        if u64_at(b, i) != 0 {
-            return false;
-        }
-        i += 8;
-    }
-    while i < to {
-        if u8_at(b, i) != 0 {
-            return false;
-        }
-        i += 1;
-    }
-    true
+    b[from..to].iter().fold(0, |any, byte| any | *byte) == 0
 }
 
-// Whether two slices hold the same bytes; eight at a time too. Slices of other lengths do not.
+// Whether two slices hold the same bytes. Slices of other lengths do not.
 pub fn same_bytes(a: &[u8], b: &[u8]) -> bool
     ensures { result ≡ same_list a.now b.now }
 {
-    if a.len() != b.len() {
-        return false;
-    }
-    let mut i: usize = 0;
-    while 8 <= a.len() - i {
-        if u64_at(a, i) != u64_at(b, i) {
-            return false;
-        }
-        i += 8;
-    }
-    while i < a.len() {
-        if u8_at(a, i) != u8_at(b, i) {
-            return false;
-        }
-        i += 1;
-    }
-    true
+    a == b
 }
 
 // Zeros from `from` to before `to`.
@@ -161,12 +131,7 @@ pub fn clear(b: &mut [u8], from: usize, to: usize)
     requires { (from ≤ to) × (to ≤ length b.old) }
     ensures { b.new ≡ splice b.old from (to - from) (replicate (to - from) 0) }
 {
-    let n = to - from;
-    let mut i: usize = 0;
-    while i < n {
-        b[from + i] = 0;
-        i += 1;
-    }
+    b[from..to].fill(0);
 }
 
 // All of `src` into `out`, from `at` on.
@@ -174,36 +139,29 @@ pub fn copy_in(out: &mut [u8], at: usize, src: &[u8])
     requires { at + length src.now ≤ length out.old }
     ensures { out.new ≡ splice out.old at (length src.now) src.now }
 {
-    let mut i: usize = 0;
-    while i < src.len() {
-        out[at + i] = src[i];
-        i += 1;
-    }
+    out[at..at + src.len()].copy_from_slice(src);
 }
 
-// Eight bytes `words` times, from `from` on, over those from `to` on, which lies no lower. The two parts may overlap: the last eight go
-// first.
+// The `8 * words` bytes from `from` on also to `to`, whatever of the two parts overlaps.
+pub fn move_run(run: &mut [u8], from: usize, to: usize, words: usize)
+    requires { (from + 8 * words ≤ length run.old) × (to + 8 * words ≤ length run.old) }
+    ensures { run.new ≡ splice run.old to (8 * words) (cut run.old from (8 * words)) }
+{
+    run.copy_within(from..from + 8 * words, to);
+}
+
+// To a place that lies no lower.
 pub fn move_up(run: &mut [u8], from: usize, to: usize, words: usize)
     requires { (from ≤ to) × (to + 8 * words ≤ length run.old) }
     ensures { run.new ≡ splice run.old to (8 * words) (cut run.old from (8 * words)) }
 {
-    let mut k = words;
-    while 0 < k {
-        k -= 1;
-        let eight = u64_at(run, from + 8 * k);
-        put_u64(run, to + 8 * k, eight);
-    }
+    move_run(run, from, to, words);
 }
 
-// The same to a place that lies no higher: the first eight go first.
+// To a place that lies no higher.
 pub fn move_down(run: &mut [u8], from: usize, to: usize, words: usize)
     requires { (to ≤ from) × (from + 8 * words ≤ length run.old) }
     ensures { run.new ≡ splice run.old to (8 * words) (cut run.old from (8 * words)) }
 {
-    let mut k: usize = 0;
-    while k < words {
-        let eight = u64_at(run, from + 8 * k);
-        put_u64(run, to + 8 * k, eight);
-        k += 1;
-    }
+    move_run(run, from, to, words);
 }
