@@ -1,0 +1,45 @@
+-- What a chain over the numbers below n answers, where its closure computes a test. Assumes nothing.
+use Prim.Native.Nat.{ℕ, zero, suc, ◌+◌, ◌-◌}
+use mathlib.Core.Path.{◌≡◌, refl, ap, ap₂, ◌∙◌}
+use mathlib.Core.Bool.{Bool, true, false, ◌&&◌}
+use mathlib.Core.List.{List}
+use native.Mathlib.Numerals.{unary_clauses}
+use native.Mathlib.Omega.{arith}
+use denote.Param.Members.{Mut}
+use Rattle.std.specs.declared.ops.Range.{Range}
+use Rattle.std.specs.Fn.{Called}
+use Rattle.std.specs.Iterator.{YieldsThen}
+use Rattle.std.specs.List.{range_with_len, list_all, FoldsTo}
+use Rattle.std.specs.Option.{MatchOption}
+use Rattle.std.specs.declared.option.Option.{Option}
+use Rattle.std.proofs.iter.Yields.{nat_range_steps}
+use Rattle.std.proofs.lemmas.Iterator.{YieldsList-from_range}
+use Rattle.std.proofs.lemmas.Iterator.Search.{all_from_yields_List}
+use Rattle.numbers.specs.Words.{every}
+use Rattle.block.specs.Fields.{upto}
+
+-- the numbers from a on, shifted to those from 0 on
+counted : (test : ℕ → Bool) (a n : ℕ) (f : ℕ → Bool) → ((i : ℕ) → test (i + a) ≡ f i) → list_all test (range_with_len a n) ≡ every (upto n f)
+counted test a zero f h = refl
+counted test a (suc n) f h =
+    let first : a ≡ 0 + a = omega arith in
+    let next : (i : ℕ) → i + (a + 1) ≡ suc i + a = λ i. omega arith in
+    ap₂ ◌&&◌ (ap test first ∙ h 0) (counted test (a + 1) n (λ i. f (suc i)) (λ i. ap test (next i) ∙ h (suc i)))
+
+-- what `all` ensures of a run over a range
+abbrev Ran : {F : Type 0} → Mut F (ℕ × Unit {0}) Bool → Range ℕ → Range ℕ → F → Bool → Type 0
+Ran {F} g s u p r =
+    (xs : List ℕ) × (o : Option ℕ) × (j : F) × YieldsThen nat_range_steps s xs o u × FoldsTo (λ p x q. Called g p (x, tt) true q) p xs j
+    × MatchOption o (r ≡ true) (λ x. (r ≡ false) × ((h : F) × Called g j (x, tt) false h))
+
+-- the closure computes a test
+abbrev Computes : {F : Type 0} → Mut F (ℕ × Unit {0}) Bool → F → (ℕ → Bool) → Type 0
+Computes {F} g p test = (x : ℕ) (b : Bool) (q : F) → Called g p (x, tt) b q → (q ≡ p) × (b ≡ test x)
+
+module _ {F : Type 0} {g : Mut F (ℕ × Unit {0}) Bool} {s u : Range ℕ} {p : F} {r : Bool} where
+  pub all_from : (a b n : ℕ) (test f : ℕ → Bool) → Ran g s u p r → s ≡ record { start = a; end = b } → b - a ≡ n → Computes g p test → ((i : ℕ) → test (i + a) ≡ f i)
+      → r ≡ every (upto n f)
+  all_from a b n test f ran e l tests same = all_from_yields_List test u p r ran (YieldsList-from_range a b n e l) tests ∙ counted test a n f same
+
+  pub all_below : (n : ℕ) (test : ℕ → Bool) → Ran g s u p r → s ≡ record { start = 0; end = n } → Computes g p test → r ≡ every (upto n test)
+  all_below n test ran e tests = all_from 0 n n test test ran e (omega arith) tests (λ i. simp unary_clauses)
