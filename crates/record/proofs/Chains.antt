@@ -1,7 +1,7 @@
 -- What a chain over the numbers below n answers, where its closure computes a test. Assumes nothing.
 use Prim.Native.Nat.{ℕ, zero, suc, ◌+◌, ◌-◌}
 use mathlib.Core.Path.{◌≡◌, refl, ap, ap₂, ◌∙◌}
-use mathlib.Core.Bool.{Bool, true, false, ◌&&◌}
+use mathlib.Core.Bool.{Bool, true, false, ◌&&◌, ◌||◌}
 use mathlib.Core.List.{List}
 use native.Mathlib.Numerals.{unary_clauses}
 use native.Mathlib.Omega.{arith}
@@ -9,13 +9,13 @@ use denote.Param.Members.{Mut}
 use Rattle.std.specs.declared.ops.Range.{Range}
 use Rattle.std.specs.Fn.{Called}
 use Rattle.std.specs.Iterator.{YieldsThen}
-use Rattle.std.specs.List.{range_with_len, list_all, FoldsTo}
+use Rattle.std.specs.List.{range_with_len, list_all, list_any, FoldsTo}
 use Rattle.std.specs.Option.{MatchOption}
 use Rattle.std.specs.declared.option.Option.{Option}
 use Rattle.std.proofs.iter.Yields.{nat_range_steps}
 use Rattle.std.proofs.lemmas.Iterator.{YieldsList-from_range}
-use Rattle.std.proofs.lemmas.Iterator.Search.{all_from_yields_List}
-use Rattle.numbers.specs.Words.{every}
+use Rattle.std.proofs.lemmas.Iterator.Search.{all_from_yields_List, any_from_yields_List}
+use Rattle.numbers.specs.Words.{every, some?}
 use Rattle.block.specs.Fields.{upto}
 
 -- the numbers from a on, shifted to those from 0 on
@@ -26,20 +26,32 @@ counted test a (suc n) f h =
     let next : (i : ℕ) → i + (a + 1) ≡ suc i + a = λ i. omega arith in
     ap₂ ◌&&◌ (ap test first ∙ h 0) (counted test (a + 1) n (λ i. f (suc i)) (λ i. ap test (next i) ∙ h (suc i)))
 
--- what `all` ensures of a run over a range
-abbrev Ran : {F : Type 0} → Mut F (ℕ × Unit {0}) Bool → Range ℕ → Range ℕ → F → Bool → Type 0
-Ran {F} g s u p r =
-    (xs : List ℕ) × (o : Option ℕ) × (j : F) × YieldsThen nat_range_steps s xs o u × FoldsTo (λ p x q. Called g p (x, tt) true q) p xs j
-    × MatchOption o (r ≡ true) (λ x. (r ≡ false) × ((h : F) × Called g j (x, tt) false h))
+counted_some : {A : Type 0} (test : ℕ → Bool) (a n : ℕ) (g : A → Bool) (f : ℕ → A) → ((i : ℕ) → test (i + a) ≡ g (f i)) → list_any test (range_with_len a n) ≡ some? g (upto n f)
+counted_some test a zero g f h = refl
+counted_some test a (suc n) g f h =
+    let first : a ≡ 0 + a = omega arith in
+    let next : (i : ℕ) → i + (a + 1) ≡ suc i + a = λ i. omega arith in
+    ap₂ ◌||◌ (ap test first ∙ h 0) (counted_some test (a + 1) n g (λ i. f (suc i)) (λ i. ap test (next i) ∙ h (suc i)))
+
+-- what `all` ensures of a run over a range, and `any`: the closure answered `goes` of each number before the last one asked
+abbrev Ran : {F : Type 0} → Bool → Bool → Mut F (ℕ × Unit {0}) Bool → Range ℕ → Range ℕ → F → Bool → Type 0
+Ran {F} goes stops g s u p r =
+    (xs : List ℕ) × (o : Option ℕ) × (j : F) × YieldsThen nat_range_steps s xs o u × FoldsTo (λ p x q. Called g p (x, tt) goes q) p xs j
+    × MatchOption o (r ≡ goes) (λ x. (r ≡ stops) × ((h : F) × Called g j (x, tt) stops h))
 
 -- the closure computes a test
 abbrev Computes : {F : Type 0} → Mut F (ℕ × Unit {0}) Bool → F → (ℕ → Bool) → Type 0
 Computes {F} g p test = (x : ℕ) (b : Bool) (q : F) → Called g p (x, tt) b q → (q ≡ p) × (b ≡ test x)
 
 module _ {F : Type 0} {g : Mut F (ℕ × Unit {0}) Bool} {s u : Range ℕ} {p : F} {r : Bool} where
-  pub all_from : (a b n : ℕ) (test f : ℕ → Bool) → Ran g s u p r → s ≡ record { start = a; end = b } → b - a ≡ n → Computes g p test → ((i : ℕ) → test (i + a) ≡ f i)
-      → r ≡ every (upto n f)
+  pub all_from : (a b n : ℕ) (test f : ℕ → Bool) → Ran true false g s u p r → s ≡ record { start = a; end = b } → b - a ≡ n → Computes g p test
+      → ((i : ℕ) → test (i + a) ≡ f i) → r ≡ every (upto n f)
   all_from a b n test f ran e l tests same = all_from_yields_List test u p r ran (YieldsList-from_range a b n e l) tests ∙ counted test a n f same
 
-  pub all_below : (n : ℕ) (test : ℕ → Bool) → Ran g s u p r → s ≡ record { start = 0; end = n } → Computes g p test → r ≡ every (upto n test)
+  pub all_below : (n : ℕ) (test : ℕ → Bool) → Ran true false g s u p r → s ≡ record { start = 0; end = n } → Computes g p test → r ≡ every (upto n test)
   all_below n test ran e tests = all_from 0 n n test test ran e (omega arith) tests (λ i. simp unary_clauses)
+
+  pub any_below : {A : Type 0} (n : ℕ) (q : A → Bool) (f : ℕ → A) → Ran false true g s u p r → s ≡ record { start = 0; end = n } → Computes g p (λ i. q (f i))
+      → r ≡ some? q (upto n f)
+  any_below n q f ran e tests =
+      any_from_yields_List (λ i. q (f i)) u p r ran (YieldsList-from_range 0 n n e (omega arith)) tests ∙ counted_some (λ i. q (f i)) 0 n q f (λ i. simp unary_clauses)
