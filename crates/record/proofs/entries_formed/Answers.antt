@@ -14,4 +14,4 @@ use Rattle.record.proofs.entries_formed.Goals as goal
 pub returns : goal.returns
 returns c =
     all_from 1 9 8 (λ n. holds c.args.table.now (controller n) c.args.job || eqb (entry (decode_point form_1 c.args.b.now).object.context (controller n)).0 0)
-    (named c.args.b.now c.args.table.now c.args.job) c.all.ensures.ran (cc) refl (λ x b q k. search (rules, tests)) (λ i. refl)
+    (named c.args.b.now c.args.table.now c.args.job) c.all.ensures.ran (cc) refl (λ x b q k. search (rules, tests)) (λ i l. refl)

@@ -12,4 +12,4 @@ pub returns : goal.returns
 returns c =
     all_from 1 c.args.count (c.args.count - 1) (λ i. version_before (version_at c.args.b.now (i - 1)) (version_at c.args.b.now i))
     (λ i. version_before (version_at c.args.b.now i) (version_at c.args.b.now (i + 1))) c.all.ensures.ran (cc) refl (λ x b q k. search (rules, tests))
-    (λ i. simp unary_clauses)
+    (λ i l. simp unary_clauses)
