@@ -1,5 +1,6 @@
 -- `object::find_version` meets its contract. The invariant: the versions before i come before the dot (block Search, from i to the end). Assumes nothing.
 use borrow.Author.Rules.{rules}
+use Prim.Native.Nat.{◌-◌}
 use mathlib.Core.Path.{refl, ap, sym, ◌∙◌}
 use native.Mathlib.Omega.{arith}
 use borrow.Author.Tests.{not-true, not-false}
