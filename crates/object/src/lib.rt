@@ -1,16 +1,17 @@
 // Fill, strip, and what goes of a point's versions, in one point block of the lent bytes. The block's check is made after the last of them.
 #![tactic(auto)]
 
-ghost use Rattle.std.specs.Prelude.{◌≡◌, true, not, ◌≤◌, ◌<◌, max, length, leb, ltb, if◌then◌else◌};
+ghost use Rattle.std.specs.Prelude.{◌≡◌, Bool, true, not, ◌≤◌, ◌<◌, max, length, leb, ltb, if◌then◌else◌};
 ghost use Rattle.numbers.specs.Words.{keep, map, some?, ascends?, place};
 ghost use Rattle.numbers.specs.Numbers.{counter, controllers, Crew};
 ghost use Rattle.block.specs.Fields.{field};
 ghost use Rattle.block.specs.Block.{Laid};
 ghost use Rattle.meaning.specs.Context.{entry, is_empty, covers, fill_context, strip_context};
-ghost use Rattle.meaning.specs.Object.{version_before, has_value, fill, strip, gone};
+ghost use Rattle.meaning.specs.Object.{Version, version_before, has_value, fill, strip, gone};
 ghost use Rattle.layout.specs.PointBlock.{form_1, encode_slot, decode_slot, decode_context, decode_point};
 ghost use Rattle.layout.specs.Clocks.{decode_clock};
 ghost use Rattle.record.specs.Crewed.{crewed};
+ghost use Rattle.object.specs.Dropping.{MayBeAsked, SaysWhatGoes};
 ghost use Rattle.object.specs.Versions.{VersionIn};
 ghost use Rattle.record_edits.specs.Written.{lay_point, point_block, with_object, with_versions};
 
@@ -66,16 +67,27 @@ pub fn strip_off(b: &mut [u8], rows: &[u8])
     }
 }
 
-// The versions that are deletions go. The last is looked at first, so that those still to come stand where they stood.
+// Versions go: those of which `goes` says so, asked of the block and of the version's place in it. The last is looked at first, so that those
+// still to come stand where they stood.
+pub fn drop_where<F: Fn(&[u8], usize) -> bool>(b: &mut [u8], goes: F)
+    requires laid { (length b.old ≡ 512) × Laid lay_point point_block b.old }
+    requires asked { MayBeAsked (F.pre goes) (decode_point form_1 b.old).object.versions }
+    ensures { (stays : Version → Bool) → SaysWhatGoes (F.post goes) stays
+        → (point_block b.new ≡ with_versions (point_block b.old) (keep stays (decode_point form_1 b.old).object.versions)) × Laid lay_point point_block b.new }
+{
+    for i in (0..record::version_count(b) as usize).rev() {
+        if goes(b, i) {
+            record_edits::remove_version(b, i);
+        }
+    }
+}
+
+// The versions that are deletions go.
 pub fn drop_deleted(b: &mut [u8])
     requires { (length b.old ≡ 512) × Laid lay_point point_block b.old }
     ensures { (point_block b.new ≡ with_versions (point_block b.old) (keep (λ v. has_value v.contents) (decode_point form_1 b.old).object.versions)) × Laid lay_point point_block b.new }
 {
-    for i in (0..record::version_count(b) as usize).rev() {
-        if record::said_length(b, i) == 255 {
-            record_edits::remove_version(b, i);
-        }
-    }
+    drop_where(b, |b, i| record::said_length(b, i) == 255);
 }
 
 // A given context of eight counters covers the dot.
@@ -102,11 +114,7 @@ pub fn drop_covered(b: &mut [u8], context: &[u32])
     requires { (length b.old ≡ 512) × Laid lay_point point_block b.old × (length context.now ≡ 8) × (crewed (decode_point form_1 b.old).object.versions ≡ true) }
     ensures { (point_block b.new ≡ with_versions (point_block b.old) (keep (λ v. not (covers (map counter context.now) v.dot)) (decode_point form_1 b.old).object.versions)) × Laid lay_point point_block b.new }
 {
-    for i in (0..record::version_count(b) as usize).rev() {
-        if given_covers(context, record::version_dot(b, i)) {
-            record_edits::remove_version(b, i);
-        }
-    }
+    drop_where(b, |b, i| given_covers(context, record::version_dot(b, i)));
 }
 
 // "Strip sets to 0 each entry not above its base": no entry would be left.
