@@ -52,6 +52,14 @@ pub given_covers_is : (l : List ℕ) (d : Dot) → leb d.count.0 (get_or l (d.wh
 unfolding covers
 given_covers_is l d = ap (λ (c : Counter). leb d.count.0 c.0) (sym (given_entry l (d.who.0 - 1)))
 
+-- ---- what each controller's entry becomes
+
+abbrev pub filling : CrewTable → ℕ → Clock → Context → Controller → Counter
+filling t job k c n = if holds t n job then counter (max (entry c n).0 (row k n).base) else entry c n
+
+abbrev pub stripping : Clock → Context → Controller → Counter
+stripping k c n = if leb (entry c n).0 (row k n).base then counter 0 else entry c n
+
 -- ---- what is read in the loops
 
 -- the filled entry of a controller, by its parts as they were read: the old entry, whether it holds the job, the row
