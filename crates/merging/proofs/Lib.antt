@@ -2,7 +2,6 @@ pub mod Eight
 pub mod Carrying
 pub mod Slots
 pub mod Arriving
-pub mod Asked
 pub mod Judging
 pub mod Merged
 pub mod Whole

@@ -11,7 +11,7 @@ use Rattle.meaning.specs.Clock.{row}
 use Rattle.meaning.specs.Context.{higher}
 use Rattle.layout.specs.Clocks.{decode_clock}
 use Rattle.object.proofs.Going.{low, strips_empty}
-use Rattle.merging.proofs.Asked.{all_asked}
+use Rattle.block.proofs.Asked.{all_asked}
 use Rattle.merging.proofs.Judging.{higher_read}
 use Rattle.merging.proofs.settled_by.Goals as goal
 

@@ -11,7 +11,7 @@ use Rattle.block.specs.Fields.{upto}
 use Rattle.meaning.specs.Object.{Version, survivors}
 use Rattle.record.proofs.Reading.{version_at, versions_are}
 use Rattle.record.proofs.Questions.{crewed_at}
-use Rattle.merging.proofs.Asked.{count_asked}
+use Rattle.block.proofs.Asked.{count_asked}
 use Rattle.merging.proofs.Carrying.{lasts}
 use native.Mathlib.Omega.{arith}
 use Rattle.merging.proofs.surviving.Goals as goal

@@ -6,7 +6,7 @@ use mathlib.Core.Path.{refl, ap, ◌∙◌}
 use Rattle.meaning.specs.Object.{survivors}
 use Rattle.record.proofs.Reading.{version_at}
 use Rattle.record.proofs.Questions.{crewed_at}
-use Rattle.merging.proofs.Asked.{any_asked}
+use Rattle.block.proofs.Asked.{any_asked}
 use Rattle.merging.proofs.Carrying.{lasts}
 use Rattle.merging.proofs.Judging.{valued, any_valued}
 use native.Mathlib.Omega.{arith}
