@@ -1,6 +1,6 @@
--- Chains over the blocks of a run, as `chunks_exact(512)` gives them: what is read of each, what `all`, `any` and `is_sorted_by` answer, and that a closure may be called
--- at each. A law takes the clauses `rest` and `size` of `chunks_exact`, then those of each adapter, then those of the call that ends the chain; what is left to show
--- of the closure is for `search rules`. Assumes nothing.
+-- Chains and loops over the blocks of a run, as `chunks_exact(512)` gives them: what is read of each, what `all`, `any` and `is_sorted_by` answer, that a closure may be
+-- called at each, and which block a turn of a `for` has. A law takes the clauses `rest` and `size` of `chunks_exact`, then those of each adapter, then those of the call
+-- that ends the chain; what is left to show of the closure is for `search rules`. Assumes nothing.
 use Prim.Native.Nat.{ℕ, zero, suc, ◌+◌, ◌*◌, ◌-◌, ◌/◌, ◌≤◌, ◌<◌}
 use mathlib.Core.Path.{◌≡◌, refl, ap, ap₂, sym, ◌∙◌, subst}
 use mathlib.Core.Bool.{Bool, true, false, ◌&&◌, ◌||◌}
@@ -10,24 +10,28 @@ use lib.ListN.{length, take, get_or, length-append, length-take}
 use lib.Seq.{get_or-take}
 use denote.Ref.{Bor}
 use denote.Param.Members.{Mut}
-use Rattle.std.proofs.Common.{Option, None}
+use Rattle.std.proofs.Common.{Option, Some, None}
 use Rattle.std.specs.declared.slice.ChunksExact.{ChunksExact}
 use Rattle.std.specs.declared.iter.Enumerate.{Enumerate}
 use Rattle.std.specs.declared.iter.Map.{Map}
+use Rattle.std.specs.declared.iter.Zip.{Zip}
+use Rattle.std.specs.declared.slice.Iter.{Iter}
 use Rattle.std.specs.Bool.{OnTrue, IsTrue}
 use Rattle.std.specs.Fn.{Called, CalledAtTwo}
-use Rattle.std.specs.Iterator.{AlwaysYields, YieldsThen, DrainsIf, CallableAtEachTurn}
-use Rattle.std.specs.Iterator.Adapters.{enumerate_source, enumerate_count, enumerate_steps, map_source, map_callee, map_steps}
+use Rattle.std.specs.Iterator.{Yields, AlwaysYields, YieldsThen, DrainsIf, CallableAtEachTurn}
+use Rattle.std.specs.Iterator.Adapters.{enumerate_source, enumerate_count, enumerate_steps, map_source, map_callee, map_steps, zip_first, zip_second, zip_steps}
 use Rattle.std.specs.Iterator.Order.{IsSortedAnswer, ActsAsAtTwo}
 use Rattle.std.specs.Iterator.Runs.{Run, YieldsRun, SomeRun}
-use Rattle.std.specs.List.{FoldsTo, list_all, list_any, enumerate_from}
+use Rattle.std.specs.List.{FoldsTo, list_all, list_any, enumerate_from, zip}
 use Rattle.std.specs.Option.{MatchOption}
-use Rattle.std.specs.Slice.Iter.{chunks_exact_rest, chunks_exact_size, chunks_exact_steps}
-use Rattle.std.proofs.lemmas.Iterator.{YieldsList, YieldsList-from_map}
+use Rattle.std.specs.Slice.Iter.{iter_rest, iter_steps, chunks_exact_rest, chunks_exact_size, chunks_exact_steps}
+use Rattle.std.proofs.iter.runs.Made.{zero_default}
+use Rattle.std.proofs.lemmas.Iterator.{YieldsList, YieldsList-from_slice, YieldsList-from_map, YieldsList-from_zip}
 use Rattle.std.proofs.lemmas.Iterator.Adapters.{serves_from_places}
-use Rattle.std.proofs.lemmas.Iterator.Consumers.{YieldsList-from_enumerate, YieldsList-at, YieldsList-so_far, YieldsList-end}
+use Rattle.std.proofs.lemmas.Iterator.Consumers.{YieldsList-from_enumerate, YieldsList-at, YieldsList-so_far, YieldsList-turn, YieldsList-end}
 use Rattle.std.proofs.lemmas.Iterator.Search.{all_from_yields_List, any_from_yields_List}
 use Rattle.std.proofs.lemmas.List.FromFn.{length-enumerate_from, get_or-enumerate_from}
+use Rattle.std.proofs.lemmas.Slice.Zip.{length-zip, get_or-zip}
 use Rattle.numbers.specs.Words.{every, all?, some?}
 use Rattle.numbers.proofs.Tests.{never}
 use Rattle.block.specs.Fields.{cut, upto}
@@ -139,6 +143,49 @@ module _ {F : Type 0} {f : F} {s : ChunksExact ℕ} (run : List ℕ) (rest : chu
       let is = e ∙ get_or-enumerate_from 0 (upto (length run / 512) (block_at run)) k (x.0, x.1.now) (omega (arith, upto_length (length run / 512) (block_at run))) in
       let w = of_place run x.1.now k b (ap (λ (p : ℕ × List ℕ). p.1) is) in
       at x k b (omega (arith, ap (λ (p : ℕ × List ℕ). p.0) is)) w.0 w.1)
+
+-- ---- a turn and the end of a `for` over the blocks: z is the loop's iterator as it began, t and u as it stands before and after the call, xs what it has yielded
+
+-- with the number of each
+module _ {s : ChunksExact ℕ} (run : List ℕ) (rest : chunks_exact_rest s ≡ run) (size : chunks_exact_size s ≡ 512) (z : Enumerate (ChunksExact ℕ)) {y : Enumerate (ChunksExact ℕ)} (starts : z ≡ y) (source : enumerate_source y ≡ s)
+    (count : enumerate_count y ≡ 0) where
+  numbered_road : YieldsList (enumerate_steps chunks_exact_steps) (λ p. (p.0, p.1.now)) z (enumerate_from 0 (upto (length run / 512) (block_at run)))
+  numbered_road = YieldsList-at starts (numbered_given (λ b. b) run rest size source count)
+
+  numbered_many : length (enumerate_from 0 (upto (length run / 512) (block_at run))) ≡ length run / 512
+  numbered_many = length-enumerate_from 0 (upto (length run / 512) (block_at run)) ∙ upto_length (length run / 512) (block_at run)
+
+  module _ (t u : Enumerate (ChunksExact ℕ)) (xs : List (ℕ × Bor (List ℕ))) (yielded : Yields (enumerate_steps chunks_exact_steps) z xs t) {r : Option (ℕ × Bor (List ℕ))} (step : enumerate_steps chunks_exact_steps t r u) where
+    pub numbered_turn : {p : ℕ × Bor (List ℕ)} → r ≡ Some p → (length xs < length run / 512) × (p.0 ≡ length xs) × (p.1.now ≡ block_at run (length xs))
+    numbered_turn {p} is =
+        let w = YieldsList-turn numbered_road xs t yielded r u p is step in
+        let l : length xs < length run / 512 = omega (arith, w.0, numbered_many) in
+        let e = w.1 ∙ get_or-enumerate_from 0 (upto (length run / 512) (block_at run)) (length xs) (p.0, p.1.now) (omega (arith, l, upto_length (length run / 512) (block_at run))) in
+        (l, omega (arith, ap (λ (q : ℕ × List ℕ). q.0) e), ap (λ (q : ℕ × List ℕ). q.1) e ∙ upto_at (length run / 512) (block_at run) p.1.now (length xs) l)
+
+    pub numbered_end : r ≡ None → length xs ≡ length run / 512
+    numbered_end is = (YieldsList-end numbered_road xs t yielded r u is step).1 ∙ numbered_many
+
+-- with what stands beside each, of a list that is long enough
+module _ {s : ChunksExact ℕ} (run : List ℕ) (rest : chunks_exact_rest s ≡ run) (size : chunks_exact_size s ≡ 512) (z : Zip (ChunksExact ℕ) (Iter ℕ)) {y : Zip (ChunksExact ℕ) (Iter ℕ)} (starts : z ≡ y) (first : zip_first y ≡ s)
+    (vs : List ℕ) (second : iter_rest (zip_second y) ≡ vs) (enough : length run / 512 ≤ length vs) where
+  zipped_road : YieldsList (zip_steps chunks_exact_steps iter_steps) (λ p. (p.0.now, p.1.now)) z (zip (upto (length run / 512) (block_at run)) vs)
+  zipped_road = YieldsList-at starts (YieldsList-from_zip (YieldsList-at first (blocks_given (λ b. b) run rest size)) (YieldsList-from_slice vs second))
+
+  zipped_many : length (zip (upto (length run / 512) (block_at run)) vs) ≡ length run / 512
+  zipped_many = omega (arith, length-zip (upto (length run / 512) (block_at run)) vs, upto_length (length run / 512) (block_at run))
+
+  module _ (t u : Zip (ChunksExact ℕ) (Iter ℕ)) (xs : List (Bor (List ℕ) × Bor ℕ)) (yielded : Yields (zip_steps chunks_exact_steps iter_steps) z xs t) {r : Option (Bor (List ℕ) × Bor ℕ)} (step : zip_steps chunks_exact_steps iter_steps t r u) where
+    pub zipped_turn : {p : Bor (List ℕ) × Bor ℕ} → r ≡ Some p → (length xs < length run / 512) × (p.0.now ≡ block_at run (length xs)) × (p.1.now ≡ get_or vs (length xs) 0)
+    zipped_turn {p} is =
+        let w = YieldsList-turn zipped_road xs t yielded r u p is step in
+        let l : length xs < length run / 512 = omega (arith, w.0, zipped_many) in
+        let m : length xs < length vs = omega arith in
+        let e = w.1 ∙ get_or-zip (upto (length run / 512) (block_at run)) vs (length xs) (p.0.now, p.1.now) (omega (arith, l, upto_length (length run / 512) (block_at run))) m in
+        (l, ap (λ (q : List ℕ × ℕ). q.0) e ∙ upto_at (length run / 512) (block_at run) p.0.now (length xs) l, ap (λ (q : List ℕ × ℕ). q.1) e ∙ zero_default vs (length xs) p.1.now m)
+
+    pub zipped_end : r ≡ None → length xs ≡ length run / 512
+    zipped_end is = (YieldsList-end zipped_road xs t yielded r u is step).1 ∙ zipped_many
 
 -- ---- the answer of `is_sorted_by` where the chain gives a key for each number below n
 
