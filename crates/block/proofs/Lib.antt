@@ -16,3 +16,4 @@ pub mod ByIndex
 pub mod Search
 pub mod Placed
 pub mod Runs
+pub mod Chunks
