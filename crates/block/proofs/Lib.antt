@@ -17,3 +17,4 @@ pub mod Search
 pub mod Placed
 pub mod Runs
 pub mod Chunks
+pub mod Begins

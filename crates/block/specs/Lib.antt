@@ -1,3 +1,4 @@
 pub mod Fields
 pub mod Check
 pub mod Block
+pub mod Kind

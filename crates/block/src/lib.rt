@@ -5,6 +5,43 @@ ghost use Rattle.std.specs.Prelude.{◌≡◌, ◌+◌, ◌-◌, ◌*◌, ◌≤
 ghost use Rattle.numbers.specs.Words.{all?, same_list};
 ghost use Rattle.block.specs.Fields.{le, cut, splice, field};
 ghost use Rattle.block.specs.Check.{sums, seal, sealed};
+ghost use Rattle.block.specs.Kind.{kind_number, heading};
+
+// "Byte 0 kind": what a block is.
+#[derive(Clone, Copy, Debug, PartialEq, Eq)]
+pub enum Kind {
+    // 1: an image's head
+    Head,
+    // 2: a list of dots
+    Dots,
+    // 3: a point, stored or sent with a reply
+    Point,
+    // 4: the message of a write or a delete
+    Outgoing,
+    // 5: an ask
+    Ask,
+    // 6: a reply's head
+    ReplyHead,
+    // 7: a reading
+    Reading,
+}
+
+// The kind as it stands in a block.
+impl From<Kind> for u8 {
+    ghost from_gives = { λ k n. n ≡ kind_number k };
+
+    fn from(k: Kind) -> u8 {
+        match k {
+            Kind::Head => 1,
+            Kind::Dots => 2,
+            Kind::Point => 3,
+            Kind::Outgoing => 4,
+            Kind::Ask => 5,
+            Kind::ReplyHead => 6,
+            Kind::Reading => 7,
+        }
+    }
+}
 
 // "s1 is the sum modulo 65535, s2 the sum of the running s1 values modulo 65535"
 #[derive(Clone, Copy)]
@@ -72,6 +109,29 @@ pub fn put_u64(b: &mut [u8], at: usize, v: u64)
 {
     put_u32(b, at, (v % 4294967296) as u32);
     put_u32(b, at + 4, (v / 4294967296) as u32);
+}
+
+// "Byte 0 kind, 1 format (1), 2-3 position in the sequence": the block begins so.
+pub fn headed(b: &[u8], kind: Kind, position: u16) -> bool
+    requires { 4 ≤ length b.now }
+    ensures { result ≡ heading b.now kind position }
+{
+    if u8_at(b, 0) != u8::from(kind) {
+        return false;
+    }
+    if u8_at(b, 1) != 1 {
+        return false;
+    }
+    u16_at(b, 2) == position
+}
+
+// The kind and format 1 are written in front.
+pub fn put_kind(b: &mut [u8], kind: Kind)
+    requires { 2 ≤ length b.old }
+    ensures { b.new ≡ splice (splice b.old 0 1 (le 1 (kind_number kind))) 1 1 (le 1 1) }
+{
+    put_u8(b, 0, u8::from(kind));
+    put_u8(b, 1, 1);
 }
 
 // 254 words and their running sums add up to less than 2 ^ 32: so the remainders are taken once, after the loop.

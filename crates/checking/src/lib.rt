@@ -18,6 +18,7 @@ ghost use Rattle.record_edits.specs.Written.{lay_point, point_block};
 ghost use Rattle.checking.specs.Points.{dot_above, above, record_clashes, stored_somewhere, clashes_beside, list_clashes};
 ghost use Rattle.checking.specs.Judged.{outgoing_judged, message_judged};
 
+use block::Kind;
 use numbers::{Controller, Dot};
 use refusal::Refusal;
 
@@ -241,7 +242,7 @@ pub fn judge_message(image: &[u8], message: &[u8]) -> Result<(), Refusal>
     if !block::is_sealed(message) {
         return Err(Refusal::WrongCheck);
     }
-    if !record::point_laid_out(message, 4, 0) {
+    if !record::point_laid_out(message, Kind::Outgoing, 0) {
         return Err(Refusal::IllFormed);
     }
     if !message_formed(message, &image[8..16]) {

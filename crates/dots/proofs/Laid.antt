@@ -11,6 +11,7 @@ use borrow.Author.Tests.{eq-eqb, ne_eqb, le-leb, lt-leb, leb-true, leb-false}
 use Rattle.numbers.specs.Words.{every, concat_map, same_list}
 use Rattle.numbers.proofs.Tests.{by_test}
 use Rattle.numbers.proofs.Lists.{Passed, failed, last_test}
+use Rattle.block.proofs.Begins.{not_first}
 use Rattle.numbers.specs.Dot.{dot}
 use Rattle.numbers.specs.Key.{key}
 use Rattle.block.specs.Fields.{le, cut, field, zeros, pad, upto}
@@ -179,6 +180,9 @@ module _ (b : List ℕ) (h : Bytes b) (e : length b ≡ 512) (position : ℕ) (s
 
   pub not_laid_out : (i : ℕ) → get_or dots_tests i true ≡ false → false ≡ same_list (encode_dots position (decode_dots b)) b
   not_laid_out i t = failed dots_tests i t ∙ sym dots_same
+
+  pub begins_otherwise : every (take 3 dots_tests) ≡ false → false ≡ same_list (encode_dots position (decode_dots b)) b
+  begins_otherwise t = sym (dots_same ∙ not_first 3 dots_tests t)
 
   pub laid_out : Passed (take 6 dots_tests) → sealed b ≡ same_list (encode_dots position (decode_dots b)) b
   laid_out p = last_test (take 6 dots_tests) (sealed b) p ∙ sym dots_same

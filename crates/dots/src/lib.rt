@@ -14,6 +14,7 @@ ghost use Rattle.dots.specs.DotsBlock.{lay_dots, dots_block, with_dots};
 ghost use Rattle.dots.specs.DotsGood.{dots_good};
 ghost use Rattle.dots.specs.Entries.{right_list, entry_good, FoundIn};
 
+use block::Kind;
 use numbers::{Controller, Counter, Dot, Key, Point};
 
 // "4-5 count"
@@ -53,13 +54,7 @@ pub fn dots_laid_out(b: &[u8], position: u16) -> bool
     requires { length b.now ≡ 512 }
     ensures { result ≡ same_list (encode_dots position (decode_dots b.now)) b.now }
 {
-    if block::u8_at(b, 0) != 2 {
-        return false;
-    }
-    if block::u8_at(b, 1) != 1 {
-        return false;
-    }
-    if block::u16_at(b, 2) != position {
+    if !block::headed(b, Kind::Dots, position) {
         return false;
     }
     let n = entry_count(b) as usize;

@@ -8,6 +8,7 @@ ghost use Rattle.layout.specs.Image.{image_length, decode, good_image};
 ghost use Rattle.layout.specs.Calls.{afterwards};
 ghost use Rattle.exchange.specs.Sent.{asked};
 
+use block::Kind;
 use numbers::Controller;
 use refusal::Refusal;
 
@@ -41,7 +42,7 @@ pub fn ask_at(image: &[u8], to: u8, out: &mut [u8]) -> Result<(), Refusal>
     }
     greeting::write_greeting(
         out,
-        5,
+        Kind::Ask,
         head::own_of(&image[0..512]),
         peer,
         0,

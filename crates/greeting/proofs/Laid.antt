@@ -8,6 +8,7 @@ use lib.ListN.{length, take, get_or, length-append, length-replicate}
 use lib.Dec.{eqb}
 use Rattle.numbers.specs.Words.{every, same_list}
 use Rattle.numbers.proofs.Lists.{Passed, failed, last_test}
+use Rattle.block.proofs.Begins.{not_first}
 use Rattle.block.specs.Fields.{le, cut, field, zeros, pad}
 use Rattle.block.specs.Check.{sealed}
 use Rattle.block.proofs.Parts.{length_cut}
@@ -88,6 +89,9 @@ module _ (b : List ℕ) (e : length b ≡ 512) (h : Bytes b) (kind points : ℕ)
   module _ (small : kind < 256) where
     pub not_laid_out : (i : ℕ) → get_or greeting_tests i true ≡ false → false ≡ same_list (encode_greeting kind (decode_ask b).sender (decode_ask b).addressee points (decode_ask b).clock) b
     not_laid_out i t = failed greeting_tests i t ∙ sym (greeting_same small)
+
+    pub begins_otherwise : every (take 3 greeting_tests) ≡ false → false ≡ same_list (encode_greeting kind (decode_ask b).sender (decode_ask b).addressee points (decode_ask b).clock) b
+    begins_otherwise t = sym (greeting_same small ∙ not_first 3 greeting_tests t)
 
     pub laid_out : Passed (take 5 greeting_tests) → sealed b ≡ same_list (encode_greeting kind (decode_ask b).sender (decode_ask b).addressee points (decode_ask b).clock) b
     laid_out p = last_test (take 5 greeting_tests) (sealed b) p ∙ sym (greeting_same small)

@@ -2,6 +2,7 @@
 #![tactic(auto)]
 
 ghost use Rattle.std.specs.Prelude.{◌≡◌, ◌||◌, length};
+ghost use Rattle.block.specs.Kind.{kind_number};
 ghost use Rattle.numbers.specs.Words.{all?, same_list};
 ghost use Rattle.numbers.specs.Numbers.{controllers, Crew};
 ghost use Rattle.meaning.specs.CrewTable.{in_some_job};
@@ -10,23 +11,23 @@ ghost use Rattle.meaning.specs.Message.{is_none, clock_formed, ask_formed};
 ghost use Rattle.layout.specs.Clocks.{decode_clock};
 ghost use Rattle.layout.specs.Messages.{encode_greeting, decode_ask};
 
+use block::Kind;
 use numbers::Controller;
 
 // "Kind 5, ask; 6, reply head: 4 sender; 5 addressee; 6-7 number of points (0 in kind 5); 8-103 clock rows."
 pub fn write_greeting(
     b: &mut [u8],
-    kind: u8,
+    kind: Kind,
     sender: Controller,
     addressee: Controller,
     points: u16,
     rows: &[u8],
 )
     requires { (length b.old ≡ 512) × (length rows.now ≡ 96) }
-    ensures { b.new ≡ encode_greeting kind sender addressee points (decode_clock rows.now) }
+    ensures { b.new ≡ encode_greeting (kind_number kind) sender addressee points (decode_clock rows.now) }
 {
     block::clear(b, 0, 512);
-    block::put_u8(b, 0, kind);
-    block::put_u8(b, 1, 1);
+    block::put_kind(b, kind);
     block::put_u8(b, 4, sender.0);
     block::put_u8(b, 5, addressee.0);
     block::put_u16(b, 6, points);
@@ -51,17 +52,11 @@ pub fn addressee_of(b: &[u8]) -> Controller
 }
 
 // Kind, format 1, position 0, the number of points, the unused bytes zero, and the check right; every other byte is read and written back as it is.
-pub fn greeting_laid_out(b: &[u8], kind: u8, points: u16) -> bool
+pub fn greeting_laid_out(b: &[u8], kind: Kind, points: u16) -> bool
     requires { length b.now ≡ 512 }
-    ensures { result ≡ same_list (encode_greeting kind (decode_ask b.now).sender (decode_ask b.now).addressee points (decode_ask b.now).clock) b.now }
+    ensures { result ≡ same_list (encode_greeting (kind_number kind) (decode_ask b.now).sender (decode_ask b.now).addressee points (decode_ask b.now).clock) b.now }
 {
-    if block::u8_at(b, 0) != kind {
-        return false;
-    }
-    if block::u8_at(b, 1) != 1 {
-        return false;
-    }
-    if block::u16_at(b, 2) != 0 {
+    if !block::headed(b, kind, 0) {
         return false;
     }
     if block::u16_at(b, 6) != points {

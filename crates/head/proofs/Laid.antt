@@ -19,6 +19,7 @@ use Rattle.layout.specs.Image.{encode_marks, decode_marks, encode_head, decode_h
 use mir.Syntax.{w8}
 use mir.Val.{Fits}
 use Rattle.numbers.proofs.Lists.{Passed, failed, last_test}
+use Rattle.block.proofs.Begins.{not_first}
 use Rattle.head.specs.HeadParts.{head_of_parts}
 use Rattle.head.proofs.Again.{clock_again, marks_again, bytes_again, part_bytes}
 
@@ -117,6 +118,9 @@ head_same b h e =
 module _ (b : List ℕ) (small : (i : ℕ) → Fits w8 (get_or b i 0)) (e : length b ≡ 512) where
   pub not_laid_out : (i : ℕ) → get_or (head_tests b) i true ≡ false → false ≡ same_list (encode_head (decode_head b)) b
   not_laid_out i t = failed (head_tests b) i t ∙ sym (head_same b (bytes_of b small) e)
+
+  pub begins_otherwise : every (take 3 (head_tests b)) ≡ false → false ≡ same_list (encode_head (decode_head b)) b
+  begins_otherwise t = sym (head_same b (bytes_of b small) e ∙ not_first 3 (head_tests b) t)
 
   pub laid_out : Passed (take 5 (head_tests b)) → sealed b ≡ same_list (encode_head (decode_head b)) b
   laid_out p = last_test (take 5 (head_tests b)) (sealed b) p ∙ sym (head_same b (bytes_of b small) e)

@@ -16,6 +16,7 @@ ghost use Rattle.head.specs.HeadEdits.{put_row, put_mark};
 ghost use Rattle.head.specs.HeadGood.{head_good};
 ghost use Rattle.head.specs.HeadParts.{head_of_parts, row_good, rows_allowed, marks_row_allowed, marks_allowed, own_row_known, own_column};
 
+use block::Kind;
 use numbers::Controller;
 use row::Row;
 
@@ -70,13 +71,7 @@ pub fn head_laid_out(b: &[u8]) -> bool
     requires { length b.now ≡ 512 }
     ensures { result ≡ same_list (encode_head (decode_head b.now)) b.now }
 {
-    if block::u8_at(b, 0) != 1 {
-        return false;
-    }
-    if block::u8_at(b, 1) != 1 {
-        return false;
-    }
-    if block::u16_at(b, 2) != 0 {
+    if !block::headed(b, Kind::Head, 0) {
         return false;
     }
     if !block::is_zero(b, 5, 8) {

@@ -4,6 +4,7 @@
 ghost use Rattle.std.specs.Prelude.{◌≡◌, true, ◌+◌, ◌≤◌, ◌<◌, length};
 ghost use Rattle.numbers.specs.Words.{ascends?};
 ghost use Rattle.numbers.specs.Numbers.{Crew};
+ghost use Rattle.block.specs.Kind.{kind_number};
 ghost use Rattle.block.specs.Fields.{insert_at, remove_at};
 ghost use Rattle.block.specs.Block.{Laid};
 ghost use Rattle.meaning.specs.Object.{no_object};
@@ -13,15 +14,16 @@ ghost use Rattle.head.specs.HeadEdits.{put_row, put_mark};
 ghost use Rattle.record_edits.specs.Written.{lay_point, point_block};
 ghost use Rattle.image_edits.specs.Edits.{Canonical, with_head, with_points, list_of, with_list};
 
+use block::Kind;
 use numbers::{Controller, Dot, Key};
 use row::Row;
 
 // ---- edits: from one canonical image to another
 
 // The object that is stored for the point k, or the empty one where there is no record, as a block of its own, but for its check.
-pub fn fetch(image: &[u8], count: usize, k: Key, kind: u8, sender: Controller, out: &mut [u8])
+pub fn fetch(image: &[u8], count: usize, k: Key, kind: Kind, sender: Controller, out: &mut [u8])
     requires { (length image.now ≡ image_length) × Canonical image.now × (count ≡ length (decode image.now).points) × (ascends? stored_before (decode image.now).points ≡ true) × (length out.old ≡ 512) }
-    ensures { (point_block out.new ≡ record { kind = kind; position = 0; point = record { sender = sender; key = k; object = look_up k (decode image.now).points } }) × Laid lay_point point_block out.new }
+    ensures { (point_block out.new ≡ record { kind = kind_number kind; position = 0; point = record { sender = sender; key = k; object = look_up k (decode image.now).points } }) × Laid lay_point point_block out.new }
 {
     match image::find_point(image, count, k) {
         Ok(i) => {
@@ -48,7 +50,7 @@ pub fn open_place(image: &mut [u8], count: usize, i: usize, k: Key)
     let free = 512 * (3 + i);
     record_edits::write_empty(
         &mut image[free..free + 512],
-        3,
+        Kind::Point,
         (3 + i) as u16,
         Controller(0),
         k,

@@ -11,6 +11,7 @@ ghost use Rattle.layout.specs.Messages.{encode_reading};
 ghost use Rattle.layout.specs.Calls.{one_block};
 ghost use Rattle.opening.specs.CallContracts.{without_count, count_in, Reads, Writes, Deletes, Strips};
 
+use block::Kind;
 use numbers::Key;
 use refusal::Refusal;
 
@@ -23,7 +24,7 @@ fn write_reading(image: &[u8], k: Key, out: &mut [u8])
 {
     let own = head::own_of(&image[0..512]);
     let count = image::stored_count(image);
-    image_edits::fetch(image, count, k, 7, own, out);
+    image_edits::fetch(image, count, k, Kind::Reading, own, out);
     object::fill_in(out, &image[8..16], &image[16..112]);
     object::drop_deleted(out);
     block::seal_block(out);

@@ -5,6 +5,7 @@ ghost use Rattle.std.specs.Prelude.{◌≡◌, true, ◌||◌, [], ◌∷◌, �
 ghost use Rattle.numbers.specs.Words.{same_list, every, all?};
 ghost use Rattle.numbers.specs.Numbers.{controller, is_controller, Crew};
 ghost use Rattle.numbers.specs.Key.{is_key};
+ghost use Rattle.block.specs.Kind.{kind_number};
 ghost use Rattle.block.specs.Fields.{cut, field, upto};
 ghost use Rattle.meaning.specs.CrewTable.{holds};
 ghost use Rattle.meaning.specs.Clock.{in_clock};
@@ -16,6 +17,7 @@ ghost use Rattle.layout.specs.PointBlock.{form_1, encode_slot, decode_slot, enco
 ghost use Rattle.record.specs.RecordGood.{record_good};
 ghost use Rattle.record.specs.Crewed.{crewed};
 
+use block::Kind;
 use numbers::{Controller, Counter, Dot, Key, Point};
 
 // "4 job; .. 6-7 point"
@@ -91,31 +93,17 @@ fn slots_laid_out(b: &[u8], count: usize) -> bool
     (0..count).all(|i| slot_laid_out(b, 40 + 32 * i))
 }
 
-// "Byte 0 kind, 1 format (1), 2-3 position in the sequence"
-fn headed(b: &[u8], kind: u8, position: u16) -> bool
-    requires { length b.now ≡ 512 }
-    ensures { result ≡ every (eqb (field b.now 0 1) kind ∷ eqb (field b.now 1 1) 1 ∷ eqb (field b.now 2 2) position ∷ []) }
-{
-    if block::u8_at(b, 0) != kind {
-        return false;
-    }
-    if block::u8_at(b, 1) != 1 {
-        return false;
-    }
-    block::u16_at(b, 2) == position
-}
-
 // "508-511 check, unused bytes zero": the slots behind the last version and the bytes behind the sender are unused. The check, which
 // reads the whole block, is looked at last.
-pub fn point_laid_out(b: &[u8], kind: u8, position: u16) -> bool
+pub fn point_laid_out(b: &[u8], kind: Kind, position: u16) -> bool
     requires { length b.now ≡ 512 }
-    ensures { result ≡ same_list (encode_point form_1 kind position (decode_point form_1 b.now)) b.now }
+    ensures { result ≡ same_list (encode_point form_1 (kind_number kind) position (decode_point form_1 b.now)) b.now }
 {
     let count = version_count(b) as usize;
     if 8 < count {
         return false;
     }
-    if !headed(b, kind, position) {
+    if !block::headed(b, kind, position) {
         return false;
     }
     if !slots_laid_out(b, count) {
@@ -138,7 +126,7 @@ pub fn stored_laid_out(b: &[u8], position: u16) -> bool
     if block::u8_at(b, 296) != 0 {
         return false;
     }
-    point_laid_out(b, 3, position)
+    point_laid_out(b, Kind::Point, position)
 }
 
 // ---- what is well-formed in a point, of refusal 4 and of a good state

@@ -3,12 +3,14 @@
 
 ghost use Rattle.std.specs.Prelude.{◌≡◌, ◌+◌, ◌-◌, ◌*◌, ◌≤◌, ◌<◌, length};
 ghost use Rattle.numbers.specs.Numbers.{Crew};
+ghost use Rattle.block.specs.Kind.{kind_number};
 ghost use Rattle.block.specs.Fields.{insert_at, remove_at};
 ghost use Rattle.block.specs.Block.{Laid};
 ghost use Rattle.meaning.specs.Object.{value, deleted, no_object};
 ghost use Rattle.layout.specs.PointBlock.{form_1, encode_slot, decode_slot, encode_point, decode_point, encode_stored, decode_stored};
 ghost use Rattle.record_edits.specs.Written.{lay_point, point_block, with_versions, put_entry, relabelled};
 
+use block::Kind;
 use numbers::{Controller, Counter, Dot, Key};
 
 // ---- a version in hand: 32 bytes as they stand in a slot
@@ -39,13 +41,12 @@ pub fn make_deleted_slot(slot: &mut [u8], d: Dot)
 // ---- edits of a point block: it says something else and is laid out still, but for its check, which is made after the last of them
 
 // "no version and an empty context": the whole block, its check too.
-pub fn write_empty(b: &mut [u8], kind: u8, position: u16, sender: Controller, k: Key)
+pub fn write_empty(b: &mut [u8], kind: Kind, position: u16, sender: Controller, k: Key)
     requires { length b.old ≡ 512 }
-    ensures { b.new ≡ encode_point form_1 kind position (record { sender = sender; key = k; object = no_object }) }
+    ensures { b.new ≡ encode_point form_1 (kind_number kind) position (record { sender = sender; key = k; object = no_object }) }
 {
     block::clear(b, 0, 512);
-    block::put_u8(b, 0, kind);
-    block::put_u8(b, 1, 1);
+    block::put_kind(b, kind);
     block::put_u16(b, 2, position);
     block::put_u8(b, 4, k.job);
     block::put_u16(b, 6, k.point.0);
@@ -54,11 +55,11 @@ pub fn write_empty(b: &mut [u8], kind: u8, position: u16, sender: Controller, k:
 }
 
 // The same point as another kind of block, at another place, from another sender: a record as a message, a message as a record.
-pub fn relabel(b: &mut [u8], kind: u8, position: u16, from: Controller)
+pub fn relabel(b: &mut [u8], kind: Kind, position: u16, from: Controller)
     requires { (length b.old ≡ 512) × Laid lay_point point_block b.old }
-    ensures { (point_block b.new ≡ relabelled (point_block b.old) kind position from) × Laid lay_point point_block b.new }
+    ensures { (point_block b.new ≡ relabelled (point_block b.old) (kind_number kind) position from) × Laid lay_point point_block b.new }
 {
-    block::put_u8(b, 0, kind);
+    block::put_u8(b, 0, u8::from(kind));
     block::put_u16(b, 2, position);
     block::put_u8(b, 296, from.0);
 }
@@ -104,6 +105,6 @@ pub fn renumber(b: &mut [u8], position: u16)
     requires { (length b.old ≡ 512) × Laid lay_point point_block b.old }
     ensures { b.new ≡ encode_stored form_1 position (decode_stored form_1 b.old) }
 {
-    relabel(b, 3, position, Controller(0));
+    relabel(b, Kind::Point, position, Controller(0));
     block::seal_block(b);
 }

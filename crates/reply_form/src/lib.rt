@@ -11,6 +11,8 @@ ghost use Rattle.layout.specs.Calls.{whole_reply};
 ghost use Rattle.arriving.specs.Sent.{points_in, Few};
 ghost use Rattle.reply_form.specs.Parts.{points_laid_out, each_formed, each_covered, all_apart, points_formed};
 
+use block::Kind;
+
 // 3: "a message block's check is wrong", in none of its blocks.
 pub fn reply_sealed(reply: &[u8]) -> bool
     requires { whole_reply reply.now ≡ true }
@@ -38,7 +40,7 @@ pub fn reply_laid_out(reply: &[u8]) -> bool
     ensures { result ≡ laid_out_reply reply.now }
 {
     let many = reply.len() / 512 - 1;
-    if !greeting::greeting_laid_out(&reply[0..512], 6, many as u16) {
+    if !greeting::greeting_laid_out(&reply[0..512], Kind::ReplyHead, many as u16) {
         return false;
     }
     points_laid_out(&reply[512..])

@@ -18,6 +18,7 @@ ghost use Rattle.replying.specs.Judged.{ask_judged};
 ghost use Rattle.replying.specs.Nearest.{all_crew, lacks, with_key, closer, nearest};
 ghost use Rattle.replying.specs.Sent.{sent_points, reply_of};
 
+use block::Kind;
 use numbers::{Controller, Dot, Key, Point};
 use refusal::Refusal;
 use row::Row;
@@ -67,7 +68,7 @@ pub fn judge_ask(image: &[u8], message: &[u8]) -> Result<(), Refusal>
     if !block::is_sealed(message) {
         return Err(Refusal::WrongCheck);
     }
-    if !greeting::greeting_laid_out(message, 5, 0) {
+    if !greeting::greeting_laid_out(message, Kind::Ask, 0) {
         return Err(Refusal::IllFormed);
     }
     if !greeting::ask_formed(message, &image[8..16]) {
@@ -190,7 +191,7 @@ fn write_point(image: &[u8], count: usize, k: Key, position: u16, out: &mut [u8]
     requires { (length image.now ≡ image_length) × (good_image image.now ≡ true) × (count ≡ length (decode image.now).points) × (length out.old ≡ 512) }
     ensures { out.new ≡ encode_stored form_1 position (as_stored (decode image.now) k) }
 {
-    image_edits::fetch(image, count, k, 3, Controller(0), out);
+    image_edits::fetch(image, count, k, Kind::Point, Controller(0), out);
     record_edits::renumber(out, position);
 }
 
@@ -228,7 +229,7 @@ pub fn write_reply(image: &[u8], message: &[u8], out: &mut [u8]) -> u32
     let sent = write_points(image, message, out);
     greeting::write_greeting(
         &mut out[0..512],
-        6,
+        Kind::ReplyHead,
         head::own_of(&image[0..512]),
         greeting::sender_of(message),
         sent,

@@ -7,6 +7,7 @@ ghost use Rattle.meaning.specs.OwnSteps.{fresh};
 ghost use Rattle.layout.specs.Image.{image_length, head_of, encode_head, encode_dots, encode};
 ghost use Rattle.opening.specs.CallContracts.{Starts};
 
+use block::Kind;
 use refusal::Refusal;
 
 // A fresh head: the own number and the table, and nothing seen.
@@ -15,8 +16,7 @@ fn write_fresh_head(b: &mut [u8], number: u8, table: &[u8])
     ensures { b.new ≡ encode_head (head_of (fresh (controller number) table.now)) }
 {
     block::clear(b, 0, 512);
-    block::put_u8(b, 0, 1);
-    block::put_u8(b, 1, 1);
+    block::put_kind(b, Kind::Head);
     block::put_u8(b, 4, number);
     block::copy_in(b, 8, table);
     block::seal_block(b);
@@ -28,8 +28,7 @@ fn write_no_dots(b: &mut [u8], position: u16)
     ensures { b.new ≡ encode_dots position [] }
 {
     block::clear(b, 0, 512);
-    block::put_u8(b, 0, 2);
-    block::put_u8(b, 1, 1);
+    block::put_kind(b, Kind::Dots);
     block::put_u16(b, 2, position);
     block::seal_block(b);
 }

@@ -24,6 +24,7 @@ ghost use Rattle.writing.specs.Judged.{staying, own_judged, judged};
 ghost use Rattle.writing.specs.LeftBy.{left_by};
 ghost use Rattle.writing.specs.Recorded.{next_clock, recorded};
 
+use block::Kind;
 use numbers::{Counter, Dot, Key};
 use refusal::Refusal;
 use row::Row;
@@ -137,7 +138,7 @@ fn write_message(image: &[u8], k: Key, d: Dot, slot: &[u8], context: &[u32], out
     ensures { out.new ≡ encode_outgoing (record { sender = (decode image.now).own; key = k; object = written (decode image.now) k (decode_slot form_1 slot.now).contents (map counter context.now) }) }
 {
     let count = image::stored_count(image);
-    image_edits::fetch(image, count, k, 4, d.who, out);
+    image_edits::fetch(image, count, k, Kind::Outgoing, d.who, out);
     object::fill_in(out, &image[8..16], &image[16..112]);
     object::drop_covered(out, context);
     object::put_version(out, slot);

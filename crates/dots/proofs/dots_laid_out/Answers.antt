@@ -6,28 +6,16 @@ use borrow.Author.Tests.{not-true, not-false, le-leb, lt-leb}
 use Rattle.block.proofs.Numbers.{bytes_of}
 use Rattle.numbers.proofs.Lists.{passed, ◌and_also◌}
 use Rattle.block.specs.Fields.{field}
-use Rattle.numbers.proofs.Tests.{read_is, read_is_not}
+use Rattle.block.proofs.Begins.{headed_each}
 use Rattle.block.proofs.Same.{zero_at}
-use Rattle.dots.proofs.Laid.{not_laid_out, laid_out}
+use Rattle.dots.proofs.Laid.{not_laid_out, begins_otherwise, laid_out}
 use borrow.Author.Rules.{rules}
 use Rattle.dots.proofs.dots_laid_out.Goals as goal
 
-pub returns-then-u8_at-ne2 : goal.returns-then-u8_at-ne2
-returns-then-u8_at-ne2 c = not_laid_out c.args.b.now (bytes_of c.args.b.now c.type_inv.b)
-    (search rules) c.args.position (search rules) 0
-    (read_is_not c.u8_at.ensures c.if-u8_at-ne2.true)
-
-pub returns-then-u8_at-ne1 : goal.returns-then-u8_at-ne1
-returns-then-u8_at-ne1 c = not_laid_out c.args.b.now
-    (bytes_of c.args.b.now c.type_inv.b)
-    (search rules) c.args.position
-    (search rules) 1 (read_is_not c.u8_at-2.ensures c.if-u8_at-ne1.true)
-
-pub returns-then-u16_at-position : goal.returns-then-u16_at-position
-returns-then-u16_at-position c = not_laid_out c.args.b.now
-    (bytes_of c.args.b.now c.type_inv.b)
-    (search rules) c.args.position
-    (search rules) 2 (read_is_not c.u16_at.ensures c.if-u16_at-position.true)
+pub returns-then-not-headed : goal.returns-then-not-headed
+returns-then-not-headed c = begins_otherwise c.args.b.now (bytes_of c.args.b.now c.type_inv.b)
+    (search rules) c.args.position (search rules)
+    (sym c.headed.ensures ∙ not-true _ c.if-not-headed.true-raw)
 
 pub returns-then-n-gt60 : goal.returns-then-n-gt60
 returns-then-n-gt60 c = not_laid_out c.args.b.now
@@ -49,14 +37,11 @@ returns-then-not-is_zero-2 c = let b = c.args.b.now in
 
 pub returns : goal.returns
 returns c = let b = c.args.b.now in
+    let h = headed_each _ _ _ (sym c.headed.ensures ∙ not-false _ c.if-not-headed.false-raw) in
     c.is_sealed.ensures
     ∙ laid_out b (bytes_of b c.type_inv.b)
     (search rules) c.args.position
-    (search rules) (read_is c.u8_at.ensures c.if-u8_at-ne2.false
-    and_also read_is c.u8_at-2.ensures
-    c.if-u8_at-ne1.false
-    and_also read_is c.u16_at.ensures
-    c.if-u16_at-position.false
+    (search rules) (h.0 and_also h.1 and_also h.2
     and_also le-leb (field b 4 2) 60 (omega (arith, c.entry_count-n.ensures))
     and_also (sym c.is_zero.ensures ∙ not-false _ c.if-not-is_zero.false-raw)
     and_also (ap (λ (n : ℕ). zero_at b (8 + 8 * n) (508 - (8 + 8 * n))) (sym c.entry_count-n.ensures) ∙ sym c.is_zero-2.ensures ∙ not-false _ c.if-not-is_zero-2.false-raw)

@@ -1,5 +1,7 @@
 -- `record::point_laid_out` meets its contract. With at most 8 versions the answer hangs on five tests (LaidOut). Assumes nothing.
 -- where the count is at most 8 the answer hangs on the tests that follow
+use Rattle.block.specs.Kind.{kind_number}
+use Rattle.block.proofs.Begins.{kind_fits}
 use Prim.Native.Nat.{ℕ, ◌≤◌, ◌<◌}
 use mathlib.Core.Path.{◌≡◌, sym, subst, ◌∙◌}
 use mathlib.Core.List.{List}
@@ -23,29 +25,29 @@ start b kind position count s e k p r l =
 
 pub returns-then-count-gt8 : goal.returns-then-count-gt8
 returns-then-count-gt8 c = let a = c.args in
-    sym (point_many a.b.now (bytes_of a.b.now c.type_inv.b) (omega arith) a.kind a.position (omega arith) (omega arith) (omega (arith, c.version_count-count.ensures)))
+    sym (point_many a.b.now (bytes_of a.b.now c.type_inv.b) (omega arith) (kind_number a.kind) a.position (kind_fits a.kind) (omega arith) (omega (arith, c.version_count-count.ensures)))
 
 pub returns-then-not-headed : goal.returns-then-not-headed
 returns-then-not-headed c = let a = c.args in
-    let s1 = start a.b.now a.kind a.position c.version_count-count.result c.type_inv.b (omega arith) (omega arith) (omega arith) c.version_count-count.ensures (omega arith) in
+    let s1 = start a.b.now (kind_number a.kind) a.position c.version_count-count.result c.type_inv.b (omega arith) (kind_fits a.kind) (omega arith) c.version_count-count.ensures (omega arith) in
     failed s1 (said_no c.headed.ensures c.if-not-headed.true-raw)
 
 pub returns-then-not-slots_laid_out : goal.returns-then-not-slots_laid_out
 returns-then-not-slots_laid_out c = let a = c.args in
-    let s1 = start a.b.now a.kind a.position c.version_count-count.result c.type_inv.b (omega arith) (omega arith) (omega arith) c.version_count-count.ensures (omega arith) in
+    let s1 = start a.b.now (kind_number a.kind) a.position c.version_count-count.result c.type_inv.b (omega arith) (kind_fits a.kind) (omega arith) c.version_count-count.ensures (omega arith) in
     let s2 = passed s1 (said_yes c.headed.ensures c.if-not-headed.false-raw) in
     failed s2 (said_no c.slots_laid_out.ensures c.if-not-slots_laid_out.true-raw)
 
 pub returns-then-not-is_zero : goal.returns-then-not-is_zero
 returns-then-not-is_zero c = let a = c.args in
-    let s1 = start a.b.now a.kind a.position c.version_count-count.result c.type_inv.b (omega arith) (omega arith) (omega arith) c.version_count-count.ensures (omega arith) in
+    let s1 = start a.b.now (kind_number a.kind) a.position c.version_count-count.result c.type_inv.b (omega arith) (kind_fits a.kind) (omega arith) c.version_count-count.ensures (omega arith) in
     let s2 = passed s1 (said_yes c.headed.ensures c.if-not-headed.false-raw) in
     let s3 = passed s2 (said_yes c.slots_laid_out.ensures c.if-not-slots_laid_out.false-raw) in
     failed s3 (said_no c.is_zero.ensures c.if-not-is_zero.true-raw)
 
 pub returns-then-not-is_zero-2 : goal.returns-then-not-is_zero-2
 returns-then-not-is_zero-2 c = let a = c.args in
-    let s1 = start a.b.now a.kind a.position c.version_count-count.result c.type_inv.b (omega arith) (omega arith) (omega arith) c.version_count-count.ensures (omega arith) in
+    let s1 = start a.b.now (kind_number a.kind) a.position c.version_count-count.result c.type_inv.b (omega arith) (kind_fits a.kind) (omega arith) c.version_count-count.ensures (omega arith) in
     let s2 = passed s1 (said_yes c.headed.ensures c.if-not-headed.false-raw) in
     let s3 = passed s2 (said_yes c.slots_laid_out.ensures c.if-not-slots_laid_out.false-raw) in
     let s4 = passed s3 (said_yes c.is_zero.ensures c.if-not-is_zero.false-raw) in
@@ -53,7 +55,7 @@ returns-then-not-is_zero-2 c = let a = c.args in
 
 pub returns : goal.returns
 returns c = let a = c.args in
-    let s1 = start a.b.now a.kind a.position c.version_count-count.result c.type_inv.b (omega arith) (omega arith) (omega arith) c.version_count-count.ensures (omega arith) in
+    let s1 = start a.b.now (kind_number a.kind) a.position c.version_count-count.result c.type_inv.b (omega arith) (kind_fits a.kind) (omega arith) c.version_count-count.ensures (omega arith) in
     let s2 = passed s1 (said_yes c.headed.ensures c.if-not-headed.false-raw) in
     let s3 = passed s2 (said_yes c.slots_laid_out.ensures c.if-not-slots_laid_out.false-raw) in
     let s4 = passed s3 (said_yes c.is_zero.ensures c.if-not-is_zero.false-raw) in
