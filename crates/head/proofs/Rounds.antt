@@ -10,7 +10,7 @@ use Rattle.numbers.specs.declared.Controller.{Controller}
 use Rattle.numbers.specs.Words.{all?, some?}
 use Rattle.numbers.specs.Numbers.{Crew, controller, controllers}
 use Rattle.numbers.proofs.Tests.{by_test, never, ◌∈◌, here, there}
-use Rattle.numbers.proofs.Lists.{some_in, in_some, all_in}
+use Rattle.numbers.proofs.Lists.{in_some}
 use Rattle.laws.proofs.Facts.{each_controller, every_controller}
 use Rattle.meaning.specs.CrewTable.{jobs}
 
@@ -59,18 +59,6 @@ number_in (suc (suc (suc (suc (suc (suc zero)))))) h = there (there (there (ther
 number_in (suc (suc (suc (suc (suc (suc (suc zero))))))) h = there (there (there (there (there (there (there (here refl)))))))
 number_in (suc (suc (suc (suc (suc (suc (suc (suc j)))))))) h = absurd (omega arith)
 
-in_number : (j : ℕ) → j ∈ jobs → j < 8
-in_number j m = ltb-true j 8 (all_in (λ (k : ℕ). ltb k 8) jobs refl m)
-
-abbrev pub NoneTo : (ℕ → Bool) → ℕ → Type 0
-NoneTo f n = (n ≤ 8) × ((j : ℕ) → j < n → f j ≡ false)
-
 module _ (f : ℕ → Bool) where
   pub some_job : (j : ℕ) → j < 8 → f j ≡ true → true ≡ some? f jobs
   some_job j h t = sym (in_some f jobs (number_in j h) t)
-
-  pub no_job : (n : ℕ) → NoneTo f n → 8 ≤ n → false ≡ some? f jobs
-  no_job n p h =
-      by_test (some? f jobs)
-      (λ e. let q = some_in f jobs e in never q.2 (p.1 q.0 (omega (arith, in_number q.0 q.1))))
-      (λ e. sym e)

@@ -1,5 +1,5 @@
 -- The clauses of a good state that speak of the head alone. Assumes nothing.
-use Rattle.std.specs.Prelude.{Bool, List, [], ◌∷◌, leb}
+use Rattle.std.specs.Prelude.{Bool, [], ◌∷◌, leb}
 use Rattle.numbers.specs.Words.{every, all?}
 use Rattle.numbers.specs.Numbers.{is_controller, controllers}
 use Rattle.meaning.specs.State.{State, mark, own_base}

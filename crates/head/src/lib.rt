@@ -43,16 +43,7 @@ pub fn shares_job(table: &[u8], n: Controller, m: Controller) -> bool
     requires { (length table.now ≡ 8) × Crew n × Crew m }
     ensures { result ≡ share_job table.now n m }
 {
-    let mut j: u8 = 0;
-    while j < 8 {
-        if parts::holds(table, n, j) {
-            if parts::holds(table, m, j) {
-                return true;
-            }
-        }
-        j += 1;
-    }
-    false
+    (0..8).any(|j| parts::holds(table, n, j) && parts::holds(table, m, j))
 }
 
 // "Peers of n are the controllers that share a job with it, n included."
@@ -114,14 +105,7 @@ pub fn rows_sound(rows: &[u8]) -> bool
     requires { length rows.now ≡ 96 }
     ensures { result ≡ every_row row_good (decode_clock rows.now) }
 {
-    let mut n: u8 = 1;
-    while n < 9 {
-        if !row_sound(parts::row_at(rows, Controller(n))) {
-            return false;
-        }
-        n += 1;
-    }
-    true
+    (1..9).all(|n| row_sound(parts::row_at(rows, Controller(n))))
 }
 
 // "clock rows of non-peers are zero"
@@ -129,16 +113,9 @@ pub fn rows_allowed(own: Controller, table: &[u8], rows: &[u8]) -> bool
     requires { Crew own × (length table.now ≡ 8) × (length rows.now ≡ 96) }
     ensures { result ≡ rows_allowed own table.now (decode_clock rows.now) }
 {
-    let mut n: u8 = 1;
-    while n < 9 {
-        if !row_none(parts::row_at(rows, Controller(n))) {
-            if !peers(table, own, Controller(n)) {
-                return false;
-            }
-        }
-        n += 1;
-    }
-    true
+    (1..9).all(|n| {
+        row_none(parts::row_at(rows, Controller(n))) || peers(table, own, Controller(n))
+    })
 }
 
 // "the watermark is zero for non-peers": of the row of m, a peer or not.
@@ -146,19 +123,10 @@ pub fn marks_row_allowed(own: Controller, table: &[u8], marks: &[u8], m: Control
     requires { Crew own × (length table.now ≡ 8) × (length marks.now ≡ 256) × Crew m }
     ensures { result ≡ marks_row_allowed own table.now (decode_marks marks.now) m }
 {
-    let mut n: u8 = 1;
-    while n < 9 {
-        if mark_at(marks, m, Controller(n)) != 0 {
-            if !peers(table, own, m) {
-                return false;
-            }
-            if !peers(table, own, Controller(n)) {
-                return false;
-            }
-        }
-        n += 1;
-    }
-    true
+    (1..9).all(|n| {
+        mark_at(marks, m, Controller(n)) == 0
+            || peers(table, own, m) && peers(table, own, Controller(n))
+    })
 }
 
 // The same of every row.
@@ -166,14 +134,7 @@ pub fn marks_allowed(own: Controller, table: &[u8], marks: &[u8]) -> bool
     requires { Crew own × (length table.now ≡ 8) × (length marks.now ≡ 256) }
     ensures { result ≡ marks_allowed own table.now (decode_marks marks.now) }
 {
-    let mut m: u8 = 1;
-    while m < 9 {
-        if !marks_row_allowed(own, table, marks, Controller(m)) {
-            return false;
-        }
-        m += 1;
-    }
-    true
+    (1..9).all(|m| marks_row_allowed(own, table, marks, Controller(m)))
 }
 
 // "and no higher than our own rows in our row"
@@ -181,15 +142,9 @@ pub fn own_row_known(own: Controller, rows: &[u8], marks: &[u8]) -> bool
     requires { Crew own × (length rows.now ≡ 96) × (length marks.now ≡ 256) }
     ensures { result ≡ own_row_known own (decode_clock rows.now) (decode_marks marks.now) }
 {
-    let mut n: u8 = 1;
-    while n < 9 {
-        let r = parts::row_at(rows, Controller(n));
-        if r.base < mark_at(marks, own, Controller(n)) {
-            return false;
-        }
-        n += 1;
-    }
-    true
+    (1..9).all(|n| {
+        mark_at(marks, own, Controller(n)) <= parts::row_at(rows, Controller(n)).base
+    })
 }
 
 // "no own entry anywhere is above the own base": of the watermark, the own column.
@@ -197,14 +152,7 @@ pub fn own_column_known(own: Controller, base: u32, marks: &[u8]) -> bool
     requires { Crew own × (length marks.now ≡ 256) }
     ensures { result ≡ own_column own base (decode_marks marks.now) }
 {
-    let mut m: u8 = 1;
-    while m < 9 {
-        if base < mark_at(marks, Controller(m), own) {
-            return false;
-        }
-        m += 1;
-    }
-    true
+    (1..9).all(|m| mark_at(marks, Controller(m), own) <= base)
 }
 
 // All clauses of a good state that speak of the head alone, on its parts.

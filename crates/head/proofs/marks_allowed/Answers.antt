@@ -1,21 +1,14 @@
--- `head::marks_allowed` meets its contract. The invariant: the rows of the watermark before m pass (Rounds). Assumes nothing.
-use Prim.Native.Nat.{◌-◌}
-use mathlib.Core.Path.{sym, ◌∙◌}
-use borrow.Author.Tests.{not-true, not-false}
-use Rattle.head.proofs.Rounds.{none_yet, one_more, all_done, one_fails}
+-- `head::marks_allowed` meets its contract: a chain over the controllers. Assumes nothing.
+use Rattle.std.proofs.Common.{rules, tests}
+use Rattle.std.proofs.lemmas.Iterator.{YieldsList-from_range}
+use Rattle.std.proofs.lemmas.Iterator.Search.{all_from_yields_List}
+use Prim.Native.Nat.{ℕ}
+use mathlib.Core.Path.{refl}
+use Rattle.numbers.specs.Numbers.{controller}
+use Rattle.layout.specs.Image.{decode_marks}
 use Rattle.head.specs.HeadParts.{marks_row_allowed, marks_allowed}
 use Rattle.head.proofs.marks_allowed.Goals as goal
 
-pub loop-m-init : goal.loop-m-init
-loop-m-init c = none_yet
-
-pub returns-then-not-marks_row_allowed : goal.returns-then-not-marks_row_allowed
-unfolding marks_allowed
-returns-then-not-marks_row_allowed c = one_fails c.loop-m.invariant c.loop-m-test.true (sym c.marks_row_allowed.ensures ∙ not-true _ c.if-not-marks_row_allowed.true-raw)
-
-pub loop-m-preserved : goal.loop-m-preserved
-loop-m-preserved c = one_more c.loop-m.invariant c.loop-m-test.true (sym c.marks_row_allowed.ensures ∙ not-false _ c.if-not-marks_row_allowed.false-raw)
-
 pub returns : goal.returns
 unfolding marks_allowed
-returns c = all_done c.loop-m.invariant c.loop-m-test.false
+returns c = let a = c.args in all_from_yields_List (λ (m : ℕ). marks_row_allowed a.own a.table.now (decode_marks a.marks.now) (controller m)) _ _ _ c.all.ensures.ran (YieldsList-from_range 1 9 8 (cc) refl) (λ x b q k. search (rules, tests))

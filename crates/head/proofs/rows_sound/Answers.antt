@@ -1,22 +1,15 @@
--- `head::rows_sound` meets its contract. The invariant: the rows before n pass (Rounds). Assumes nothing.
-use Prim.Native.Nat.{◌-◌}
-use mathlib.Core.Path.{sym, ap, ◌∙◌}
-use borrow.Author.Tests.{not-true, not-false}
-use Rattle.head.proofs.Rounds.{none_yet, one_more, all_done, one_fails}
-use Rattle.meaning.specs.Clock.{every_row}
+-- `head::rows_sound` meets its contract: a chain over the controllers. Assumes nothing.
+use Rattle.std.proofs.Common.{rules, tests}
+use Rattle.std.proofs.lemmas.Iterator.{YieldsList-from_range}
+use Rattle.std.proofs.lemmas.Iterator.Search.{all_from_yields_List}
+use Prim.Native.Nat.{ℕ}
+use mathlib.Core.Path.{refl}
+use Rattle.numbers.specs.Numbers.{controller}
+use Rattle.meaning.specs.Clock.{row, every_row}
+use Rattle.layout.specs.Clocks.{decode_clock}
 use Rattle.head.specs.HeadParts.{row_good}
 use Rattle.head.proofs.rows_sound.Goals as goal
 
-pub loop-n-init : goal.loop-n-init
-loop-n-init c = none_yet
-
-pub returns-then-not-row_sound : goal.returns-then-not-row_sound
-unfolding every_row
-returns-then-not-row_sound c = one_fails c.loop-n.invariant c.loop-n-test.true (ap row_good (sym c.row_at.ensures) ∙ sym c.row_sound.ensures ∙ not-true _ c.if-not-row_sound.true-raw)
-
-pub loop-n-preserved : goal.loop-n-preserved
-loop-n-preserved c = one_more c.loop-n.invariant c.loop-n-test.true (ap row_good (sym c.row_at.ensures) ∙ sym c.row_sound.ensures ∙ not-false _ c.if-not-row_sound.false-raw)
-
 pub returns : goal.returns
 unfolding every_row
-returns c = all_done c.loop-n.invariant c.loop-n-test.false
+returns c = let a = c.args in all_from_yields_List (λ (n : ℕ). row_good (row (decode_clock a.rows.now) (controller n))) _ _ _ c.all.ensures.ran (YieldsList-from_range 1 9 8 (cc) refl) (λ x b q k. search (rules, tests))

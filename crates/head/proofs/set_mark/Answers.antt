@@ -1,5 +1,4 @@
 -- `head::set_mark` meets its contract. The bytes of a mark put anew are the head with that mark (Edits). Assumes nothing.
-use Prim.Native.Nat.{◌-◌}
 use native.Mathlib.Omega.{arith}
 use Rattle.block.proofs.Numbers.{bytes_of}
 use Rattle.head.proofs.Edits.{mark_is_put}

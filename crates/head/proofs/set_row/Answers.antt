@@ -1,5 +1,4 @@
 -- `head::set_row` meets its contract. The bytes of a row put anew are the head with that row (Edits). Assumes nothing.
-use Prim.Native.Nat.{◌-◌}
 use Rattle.block.proofs.Numbers.{bytes_of}
 use Rattle.head.proofs.Edits.{row_is_put}
 use borrow.Author.Rules.{rules}
