@@ -14,19 +14,20 @@ use Rattle.std.proofs.Common.{Option, Some, None}
 use Rattle.std.specs.declared.slice.ChunksExact.{ChunksExact}
 use Rattle.std.specs.declared.iter.Enumerate.{Enumerate}
 use Rattle.std.specs.declared.iter.Map.{Map}
+use Rattle.std.specs.declared.iter.Take.{Take}
 use Rattle.std.specs.declared.iter.Zip.{Zip}
 use Rattle.std.specs.declared.slice.Iter.{Iter}
 use Rattle.std.specs.Bool.{OnTrue, IsTrue}
 use Rattle.std.specs.Fn.{Called, CalledAtTwo}
 use Rattle.std.specs.Iterator.{Yields, AlwaysYields, YieldsThen, DrainsIf, CallableAtEachTurn}
-use Rattle.std.specs.Iterator.Adapters.{enumerate_source, enumerate_count, enumerate_steps, map_source, map_callee, map_steps, zip_first, zip_second, zip_steps}
+use Rattle.std.specs.Iterator.Adapters.{enumerate_source, enumerate_count, enumerate_steps, map_source, map_callee, map_steps, take_source, take_count, take_steps, zip_first, zip_second, zip_steps}
 use Rattle.std.specs.Iterator.Order.{IsSortedAnswer, ActsAsAtTwo}
 use Rattle.std.specs.Iterator.Runs.{Run, YieldsRun, SomeRun}
 use Rattle.std.specs.List.{FoldsTo, list_all, list_any, enumerate_from, zip}
 use Rattle.std.specs.Option.{MatchOption}
 use Rattle.std.specs.Slice.Iter.{iter_rest, iter_steps, chunks_exact_rest, chunks_exact_size, chunks_exact_steps}
 use Rattle.std.proofs.iter.runs.Made.{zero_default}
-use Rattle.std.proofs.lemmas.Iterator.{YieldsList, YieldsList-from_slice, YieldsList-from_map, YieldsList-from_zip}
+use Rattle.std.proofs.lemmas.Iterator.{YieldsList, YieldsList-from_slice, YieldsList-from_map, YieldsList-from_take, YieldsList-from_zip}
 use Rattle.std.proofs.lemmas.Iterator.Adapters.{serves_from_places}
 use Rattle.std.proofs.lemmas.Iterator.Consumers.{YieldsList-from_enumerate, YieldsList-at, YieldsList-so_far, YieldsList-turn, YieldsList-end}
 use Rattle.std.proofs.lemmas.Iterator.Search.{all_from_yields_List, any_from_yields_List}
@@ -36,7 +37,7 @@ use Rattle.numbers.specs.Words.{every, all?, some?}
 use Rattle.numbers.proofs.Tests.{never}
 use Rattle.block.specs.Fields.{cut, upto}
 use Rattle.block.specs.Block.{block_at}
-use Rattle.block.proofs.Arrays.{upto_same, upto_length, upto_at}
+use Rattle.block.proofs.Arrays.{upto_same, upto_length, upto_at, take_upto}
 use Rattle.block.proofs.Content.{block_length}
 use Rattle.block.proofs.Parts.{cut_past, cut_first}
 use Rattle.block.proofs.Passing.{every_true, all_below}
@@ -145,6 +146,24 @@ module _ {F : Type 0} {f : F} {s : ChunksExact ℕ} (run : List ℕ) (rest : chu
       at x k b (omega (arith, ap (λ (p : ℕ × List ℕ). p.0) is)) w.0 w.1)
 
 -- ---- a turn and the end of a `for` over the blocks: z is the loop's iterator as it began, t and u as it stands before and after the call, xs what it has yielded
+
+-- the first m of them
+module _ {s : ChunksExact ℕ} (run : List ℕ) (rest : chunks_exact_rest s ≡ run) (size : chunks_exact_size s ≡ 512) (z : Take (ChunksExact ℕ)) {y : Take (ChunksExact ℕ)} (starts : z ≡ y) (source : take_source y ≡ s)
+    (m : ℕ) (count : take_count y ≡ m) (enough : m ≤ length run / 512) where
+  taken_road : YieldsList (take_steps chunks_exact_steps) (λ p. p.now) z (upto m (block_at run))
+  taken_road =
+      subst (YieldsList (take_steps chunks_exact_steps) (λ (p : Bor (List ℕ)). p.now) z) (take_upto m (length run / 512) (block_at run) enough)
+      (YieldsList-at starts (YieldsList-from_take m (YieldsList-at source (blocks_given (λ b. b) run rest size)) count))
+
+  module _ (t u : Take (ChunksExact ℕ)) (xs : List (Bor (List ℕ))) (yielded : Yields (take_steps chunks_exact_steps) z xs t) {r : Option (Bor (List ℕ))} (step : take_steps chunks_exact_steps t r u) where
+    pub taken_turn : {p : Bor (List ℕ)} → r ≡ Some p → (length xs < m) × (p.now ≡ block_at run (length xs))
+    taken_turn {p} is =
+        let w = YieldsList-turn taken_road xs t yielded r u p is step in
+        let l : length xs < m = omega (arith, w.0, upto_length m (block_at run)) in
+        (l, w.1 ∙ upto_at m (block_at run) p.now (length xs) l)
+
+    pub taken_end : r ≡ None → length xs ≡ m
+    taken_end is = (YieldsList-end taken_road xs t yielded r u is step).1 ∙ upto_length m (block_at run)
 
 -- with the number of each
 module _ {s : ChunksExact ℕ} (run : List ℕ) (rest : chunks_exact_rest s ≡ run) (size : chunks_exact_size s ≡ 512) (z : Enumerate (ChunksExact ℕ)) {y : Enumerate (ChunksExact ℕ)} (starts : z ≡ y) (source : enumerate_source y ≡ s)
