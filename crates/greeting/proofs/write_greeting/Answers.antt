@@ -1,5 +1,4 @@
 -- `greeting::write_greeting` meets its contract. Store by store (Stores). Assumes nothing.
-use Prim.Native.Nat.{◌-◌}
 use Rattle.block.proofs.Numbers.{bytes_of}
 use Rattle.greeting.proofs.Stores.{greeting_is}
 use Rattle.greeting.proofs.write_greeting.Goals as goal
