@@ -1,6 +1,6 @@
 -- Tests that a function makes: one of each number below n, in a loop, and several one after the other. Assumes nothing.
 use Prim.Native.Nat.{ℕ, zero, suc, ◌+◌, ◌≤◌, ◌<◌}
-use mathlib.Core.Path.{◌≡◌, refl, sym, ap, ◌∙◌}
+use mathlib.Core.Path.{◌≡◌, refl, sym, ap, ap₂, ◌∙◌}
 use mathlib.Core.Bool.{Bool, true, false, ◌&&◌, ◌||◌, not}
 use mathlib.Core.List.{List, [], ◌∷◌}
 use native.Mathlib.Omega.{arith}
@@ -8,7 +8,9 @@ use borrow.Author.Tests.{not-true, not-false}
 use borrow.Author.Count.{below_more}
 use Rattle.numbers.specs.Words.{every, all?, some?}
 use Rattle.numbers.proofs.Tests.{by_test, never, and_left, and_right, and_both}
+use Rattle.std.specs.List.{list_all, range_with_len}
 use Rattle.block.specs.Fields.{upto}
+use Rattle.block.proofs.Arrays.{upto_same}
 
 pub every_true : (n : ℕ) (f : ℕ → Bool) → ((k : ℕ) → k < n → f k ≡ true) → every (upto n f) ≡ true
 every_true zero f h = refl
@@ -75,6 +77,15 @@ any_below {A} false g n f one none = sym (some_false n f (none refl))
     some_false : (m : ℕ) (h : ℕ → A) → ((k : ℕ) → k < m → g (h k) ≡ false) → some? g (upto m h) ≡ false
     some_false zero h t = refl
     some_false (suc m) h t = ap (λ (b : Bool). b || some? g (upto m (λ i. h (suc i)))) (t 0 (omega arith)) ∙ some_false m (λ i. h (suc i)) (λ k l. t (suc k) (omega arith))
+
+-- the same by the library's own words: `all` over the numbers from a on, as `all_from_yields_List` has it
+pub range_all : (p : ℕ → Bool) (a n : ℕ) → list_all p (range_with_len a n) ≡ every (upto n (λ k. p (a + k)))
+range_all p a zero = refl
+range_all p a (suc n) =
+    ap₂ ◌&&◌ (ap p (omega arith)) (range_all p (a + 1) n ∙ ap every (upto_same n (λ k. p (a + 1 + k)) (λ k. p (a + suc k)) (λ k l. ap p (omega arith))))
+
+pub range_every : (p : ℕ → Bool) (n : ℕ) → list_all p (range_with_len 0 n) ≡ every (upto n p)
+range_every p n = range_all p 0 n ∙ ap every (upto_same n (λ k. p (0 + k)) p (λ k l. ap p (omega arith)))
 
 -- ---- tests one after the other, each of which may end the function
 

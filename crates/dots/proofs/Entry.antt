@@ -10,7 +10,7 @@ use Rattle.numbers.specs.declared.Controller.{Controller}
 use Rattle.numbers.specs.Numbers.{Crew, last_counter, is_controller, is_counter, is_point, is_job}
 use Rattle.numbers.specs.Key.{is_key}
 use Rattle.numbers.proofs.Tests.{by_test, and_both, and_first, and_second}
-use Rattle.numbers.proofs.Lists.{clause, failed, last_test, passed, ◌and_also◌, all_passed}
+use Rattle.numbers.proofs.Lists.{failed, last_test, passed, ◌and_also◌, all_passed}
 use Rattle.numbers.proofs.Controllers.{crew_is, is_crew}
 use Rattle.meaning.specs.CrewTable.{CrewTable, holds}
 use Rattle.meaning.specs.Clock.{Clock, in_clock}
@@ -72,8 +72,3 @@ module _ (mine : Bool) (own : Controller) (t : CrewTable) (k : Clock) (l : Liste
 
       formed : listed_formed t l ≡ true
       formed = unfold listed_formed in (all_passed {bs = ranges} (is_a_key and_also is_crew l.dot.who w and_also h and_also is_a_counter and_also passed))
-
-  -- a good one is of a controller
-  pub good_who : entry_good mine own t k l ≡ true → 1 ≤ l.dot.who.0
-  unfolding entry_good listed_formed
-  good_who g = (crew_is l.dot.who (clause ranges (clause asked g 0) 1)).0

@@ -1,29 +1,25 @@
 -- When the entries of a block are good, one by one and in their order. Assumes nothing.
-use Prim.Native.Nat.{ℕ, ◌+◌, ◌≤◌, ◌<◌}
-use mathlib.Core.Path.{◌≡◌, sym, ap, ◌∙◌}
-use mathlib.Core.Logic.{inl, ⊎_elim}
-use mathlib.Core.Bool.{Bool, true, false}
+use Prim.Native.Nat.{ℕ, zero, suc, ◌+◌, ◌-◌, ◌<◌}
+use mathlib.Core.Path.{◌≡◌, sym, ap, ap₂, ◌∙◌}
+use mathlib.Core.Logic.{⊎_elim}
+use mathlib.Core.Bool.{Bool, true, false, ◌&&◌}
 use mathlib.Core.List.{List, [], ◌∷◌}
 use native.Mathlib.Omega.{arith}
 use lib.ListN.{get_or}
 use Rattle.numbers.specs.declared.Controller.{Controller}
-use Rattle.numbers.specs.declared.Dot.{Dot}
-use Rattle.numbers.specs.Words.{all?, ascends?}
-use Rattle.numbers.specs.Dot.{dot, dot_before}
-use Rattle.numbers.proofs.Tests.{by_test, never}
+use Rattle.numbers.specs.Words.{every, all?, ascends?}
+use Rattle.numbers.proofs.Tests.{same_test, and_left, and_right, and_both}
 use Rattle.numbers.proofs.Lists.{clause, passed, ◌and_also◌, all_passed}
-use Rattle.numbers.proofs.Orders.{lt_pair}
 use Rattle.numbers.proofs.Dots.{dot_order}
 use Rattle.block.specs.Fields.{upto}
 use Rattle.block.proofs.ByIndex.{less_or_same, all_below, below_all, ascends_upto, upto_ascends}
+use Rattle.block.proofs.Passing.{every_true, every_at}
 use Rattle.meaning.specs.CrewTable.{CrewTable, holds}
 use Rattle.meaning.specs.Clock.{Clock, in_clock}
 use Rattle.meaning.specs.State.{Listed, listed_before}
 use Rattle.meaning.specs.Good.{listed_formed}
 use Rattle.dots.specs.DotsGood.{in_its_list, dots_good}
 use Rattle.dots.specs.Entries.{entry_good}
-
--- ---- a list is good where each entry is, and each pair is in its order
 
 module _ (mine : Bool) (own : Controller) (t : CrewTable) (k : Clock) (n : ℕ) (e : ℕ → Listed) where
   abbrev clauses : List Bool
@@ -69,48 +65,34 @@ module _ (mine : Bool) (own : Controller) (t : CrewTable) (k : Clock) (n : ℕ) 
       and_also below_all (λ x. in_clock k x.dot) n e (clause_at g 4) i l
       and_also passed)
 
-  pub one_bad : (i : ℕ) → i < n → entry_good mine own t k (e i) ≡ false → false ≡ dots_good mine own t k (upto n e)
-  one_bad i l b = by_test (dots_good mine own t k (upto n e)) (λ g. never (each_of g i l) b) (λ f. sym f)
+  -- it is good where each is, and each comes after the one before it
+  abbrev pub near : ℕ → Bool
+  near i = listed_before (e (i - 1)) (e i)
 
-  pub pair_bad : (i j : ℕ) → i < j → j < n → listed_before (e i) (e j) ≡ false → false ≡ dots_good mine own t k (upto n e)
-  pair_bad i j l m b = by_test (dots_good mine own t k (upto n e)) (λ g. never (upto_ascends listed_before n e (clause_at g 1) i j l m) b) (λ f. sym f)
-
--- ---- one after the other, with the last dot in hand
-
--- the entries before i pass and ascend. What comes after the last dot comes after all of them; what does not, of a controller, comes before or
--- with one of them
-pub record GoodTo (f : Listed → Bool) (e : ℕ → Listed) (n i : ℕ) (last : Dot) : Type 0 where
-  pub within : i ≤ n
-  pub good : (j : ℕ) → j < i → f (e j) ≡ true
-  pub pairs : (j k : ℕ) → j < k → k < i → listed_before (e j) (e k) ≡ true
-  pub after : (d : Dot) → dot_before last d ≡ true → (j : ℕ) → j < i → dot_before (e j).dot d ≡ true
-  pub not_after : (d : Dot) → 1 ≤ d.who.0 → dot_before last d ≡ false → (j : ℕ) × (j < i) × (dot_before (e j).dot d ≡ false)
-
-module _ {f : Listed → Bool} {e : ℕ → Listed} {n : ℕ} where
-  pub none_yet : GoodTo f e n 0 (dot 0 0)
-  none_yet =
-      record {
-        within = omega arith;
-        good = λ j l. absurd (omega arith);
-        pairs = λ j k l m. absurd (omega arith);
-        after = λ d t j l. absurd (omega arith);
-        not_after = λ d l t. never (lt_pair 0 0 d.who.0 d.count.0 (inl (omega arith))) t;
-      }
-
-  pub one_more : {i : ℕ} {last d : Dot} → GoodTo f e n i last → i < n → d ≡ (e i).dot → f (e i) ≡ true → dot_before last d ≡ true → GoodTo f e n (i + 1) d
-  one_more {i} {last} {d} g l q t u =
-      record {
-        within = omega arith;
-        good = λ j m. ⊎_elim (λ h. g.good j h) (λ h. ap (λ (x : ℕ). f (e x)) h ∙ t) (less_or_same j i m);
-        pairs = λ j k m h. ⊎_elim (λ x. g.pairs j k m x) (λ x. ap (λ (y : ℕ). listed_before (e j) (e y)) x ∙ before_this j (omega arith)) (less_or_same k i h);
-        after = λ x v j m.
-            ⊎_elim (λ h. dot_order.through (e j).dot (e i).dot x (before_this j h) (this_before x v))
-            (λ h. ap (λ (y : ℕ). dot_before (e y).dot x) h ∙ this_before x v) (less_or_same j i m);
-        not_after = λ x m v. (i, omega arith, ap (λ (y : Dot). dot_before y x) (sym q) ∙ v);
-      }
+  in_turn : (every (upto n (λ i. entry_good mine own t k (e i))) && every (upto (n - 1) (λ i. near (1 + i)))) ≡ dots_good mine own t k (upto n e)
+  in_turn =
+      same_test (every (upto n (λ i. entry_good mine own t k (e i))) && every (upto (n - 1) (λ i. near (1 + i)))) (dots_good mine own t k (upto n e))
+      (λ p.
+      let q = every_at (n - 1) (λ i. near (1 + i)) (and_right (every (upto n (λ i. entry_good mine own t k (e i)))) (every (upto (n - 1) (λ i. near (1 + i)))) p) in
+      sym (all_good (every_at n (λ i. entry_good mine own t k (e i)) (and_left (every (upto n (λ i. entry_good mine own t k (e i)))) (every (upto (n - 1) (λ i. near (1 + i)))) p)) (λ i j l m. pairs q j m i l)))
+      (λ g.
+      and_both (every (upto n (λ i. entry_good mine own t k (e i)))) (every (upto (n - 1) (λ i. near (1 + i))))
+      (every_true n (λ i. entry_good mine own t k (e i)) (each_of g))
+      (every_true (n - 1) (λ i. near (1 + i)) (λ i l. upto_ascends listed_before n e (clause_at g 1) (1 + i - 1) (1 + i) (omega arith) (omega arith))))
     where
-      before_this : (j : ℕ) → j < i → dot_before (e j).dot (e i).dot ≡ true
-      before_this j m = g.after (e i).dot (ap (dot_before last) (sym q) ∙ u) j m
+      pairs : ((i : ℕ) → i < n - 1 → near (1 + i) ≡ true) → (j : ℕ) → j < n → (i : ℕ) → i < j → listed_before (e i) (e j) ≡ true
+      pairs q zero m i l = absurd (omega arith)
+      pairs q (suc j) m i l =
+          let here : 1 + j - 1 ≡ j = omega arith in
+          let there : 1 + j ≡ suc j = omega arith in
+          let last : listed_before (e j) (e (suc j)) ≡ true = ap₂ (λ (x y : ℕ). listed_before (e x) (e y)) (sym here) (sym there) ∙ q j (omega arith) in
+          ⊎_elim (λ h. dot_order.through (e i).dot (e j).dot (e (suc j)).dot (pairs q j (omega arith) i h) last)
+          (λ h. ap (λ (x : ℕ). listed_before (e x) (e (suc j))) h ∙ last) (less_or_same i j (omega arith))
 
-      this_before : (x : Dot) → dot_before d x ≡ true → dot_before (e i).dot x ≡ true
-      this_before x v = ap (λ (y : Dot). dot_before y x) (sym q) ∙ v
+  -- what the two chains answer, one after the other
+  module _ {each : Bool} (p : each ≡ every (upto n (λ i. entry_good mine own t k (e i)))) where
+    pub in_order : {next : Bool} → each ≡ true → next ≡ every (upto (n - 1) (λ i. near (1 + i))) → next ≡ dots_good mine own t k (upto n e)
+    in_order {next} q r = r ∙ sym (ap (λ (x : Bool). x && every (upto (n - 1) (λ i. near (1 + i)))) (sym p ∙ q)) ∙ in_turn
+
+    pub not_each : each ≡ false → each ≡ dots_good mine own t k (upto n e)
+    not_each q = q ∙ sym (ap (λ (x : Bool). x && every (upto (n - 1) (λ i. near (1 + i)))) (sym p ∙ q)) ∙ in_turn

@@ -115,8 +115,7 @@ pub fn entry_good(d: Dot, k: Key, mine: bool, own: Controller, table: &[u8], row
     parts::in_clock(rows, d)
 }
 
-// All clauses of a good state that speak of this list alone. A dot comes after all before it where it comes after the one before it; dot 0 of
-// controller 0, which is none, comes before the first.
+// All clauses of a good state that speak of this list alone. A dot comes after all before it where it comes after the one before it.
 pub fn dots_good(b: &[u8], mine: bool, own: Controller, table: &[u8], rows: &[u8]) -> bool
     requires { (length b.now ≡ 512)
         × (field b.now 4 2 ≤ 60)
@@ -126,23 +125,8 @@ pub fn dots_good(b: &[u8], mine: bool, own: Controller, table: &[u8], rows: &[u8
     ensures { result ≡ dots_good mine own table.now (decode_clock rows.now) (decode_dots b.now) }
 {
     let n = entry_count(b) as usize;
-    let mut last = Dot {
-        who: Controller(0),
-        count: Counter(0),
-    };
-    let mut i: usize = 0;
-    while i < n {
-        let d = entry_dot(b, i);
-        if !entry_good(d, entry_key(b, i), mine, own, table, rows) {
-            return false;
-        }
-        if !last.before(d) {
-            return false;
-        }
-        last = d;
-        i += 1;
-    }
-    true
+    (0..n).all(|i| entry_good(entry_dot(b, i), entry_key(b, i), mine, own, table, rows))
+        && (1..n).all(|i| entry_dot(b, i - 1).before(entry_dot(b, i)))
 }
 
 // Where the dot is listed, counted from 0, or, where it is not, the place before which it would stand, as an error. It is looked for by halves: it lies

@@ -93,14 +93,7 @@ fn rows_named(table: &[u8], rows: &[u8]) -> bool
     requires { (length table.now ≡ 8) × (length rows.now ≡ 96) }
     ensures { result ≡ all? (λ n. in_some_job table.now n || is_none (row (decode_clock rows.now) n)) controllers }
 {
-    let mut n: u8 = 1;
-    while n < 9 {
-        if !row_named(table, rows, Controller(n)) {
-            return false;
-        }
-        n += 1;
-    }
-    true
+    (1..9).all(|n| row_named(table, rows, Controller(n)))
 }
 
 // Each row is sound, none is for a controller in no job, and the sender's own row has no bits.

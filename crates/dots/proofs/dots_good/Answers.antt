@@ -1,57 +1,46 @@
--- `dots::dots_good` meets its contract. The invariant: the entries before i pass and ascend, and the last dot is theirs (Good). Assumes nothing.
-use borrow.Author.Rules.{rules}
-use Prim.Native.Nat.{◌-◌}
-use mathlib.Core.Path.{sym, ap, ◌∙◌}
+-- `dots::dots_good` meets its contract: a chain over the entries, and one over each and the one before it (Good). Assumes nothing.
+use Rattle.std.proofs.Common.{rules, tests}
+use Rattle.std.proofs.lemmas.Iterator.{YieldsList-from_range}
+use Rattle.std.proofs.lemmas.Iterator.Search.{all_from_yields_List}
+use Prim.Native.Nat.{ℕ, ◌-◌}
+use mathlib.Core.Path.{◌≡◌, refl, sym, ap, ◌∙◌}
 use native.Mathlib.Omega.{arith}
-use borrow.Author.Tests.{not-true, not-false}
-use Rattle.numbers.specs.Dot.{dot_before}
-use Rattle.block.specs.Fields.{field}
+use Rattle.numbers.specs.Words.{every}
+use Rattle.block.specs.Fields.{upto}
+use Rattle.block.proofs.Passing.{range_all, range_every}
+use Rattle.meaning.specs.State.{listed_before}
 use Rattle.layout.specs.Clocks.{decode_clock}
+use Rattle.layout.specs.Image.{decode_dots}
 use Rattle.dots.specs.DotsGood.{dots_good}
 use Rattle.dots.specs.Entries.{entry, entry_good}
 use Rattle.dots.proofs.Laid.{entries_are}
-use Rattle.dots.proofs.Entry.{good_who}
-use Rattle.dots.proofs.Good.{all_good, one_bad, pair_bad, none_yet, one_more}
+use Rattle.dots.proofs.Good.{in_order, not_each}
 use Rattle.dots.proofs.dots_good.Goals as goal
+use Rattle.dots.proofs.dots_good.Goals.{After-all}
 
-pub loop-i-init : goal.loop-i-init
-loop-i-init c = none_yet
+each : (c : After-all) → let a = c.args in c.all.result ≡ every (upto c.entry_count-n.result (λ i. entry_good a.mine a.own a.table.now (decode_clock a.rows.now) (entry a.b.now i)))
+each c =
+    let a = c.args in
+    let n = c.entry_count-n.result in
+    let test = λ (i : ℕ). entry_good a.mine a.own a.table.now (decode_clock a.rows.now) (entry a.b.now i) in
+    all_from_yields_List test _ _ _ c.all.ensures.ran (YieldsList-from_range 0 n n (cc) (omega arith)) (λ x b q k. search (rules, tests)) ∙ range_every test n
 
-pub returns-then-not-entry_good : goal.returns-then-not-entry_good
-returns-then-not-entry_good c = let a = c.args in
-    let b = a.b.now in
-    one_bad a.mine a.own a.table.now (decode_clock a.rows.now)
-    (field b 4 2) (entry b) c.loop-i.i
-    (omega (arith, c.entry_count-n.ensures, c.loop-i-test.true))
-    (sym (c.entry_good.ensures ∙ ap (entry_good a.mine a.own a.table.now (decode_clock a.rows.now)) (λ j. record { dot = c.entry_dot-d.ensures j; key = c.entry_key.ensures j })) ∙ not-true _ c.if-not-entry_good.true-raw)
-    ∙ ap (dots_good a.mine a.own a.table.now (decode_clock a.rows.now)) (sym (entries_are b (search rules)))
+-- the entries up to the count are the list
+listed : (c : After-all) → let a = c.args in dots_good a.mine a.own a.table.now (decode_clock a.rows.now) (upto c.entry_count-n.result (entry a.b.now)) ≡ dots_good a.mine a.own a.table.now (decode_clock a.rows.now) (decode_dots a.b.now)
+listed c = let a = c.args in ap (dots_good a.mine a.own a.table.now (decode_clock a.rows.now)) (ap (λ (n : ℕ). upto n (entry a.b.now)) c.entry_count-n.ensures ∙ sym (entries_are a.b.now (search rules)))
 
-pub returns-then-not-before : goal.returns-then-not-before
-returns-then-not-before c = let a = c.args in
-    let b = a.b.now in
-    let i = c.loop-i.i in
-    let d = (entry b i).dot in
-    let q = c.loop-i.invariant.not_after d
-    (good_who a.mine a.own a.table.now (decode_clock a.rows.now) (entry b i) (sym (c.entry_good.ensures ∙ ap (entry_good a.mine a.own a.table.now (decode_clock a.rows.now)) (λ j. record { dot = c.entry_dot-d.ensures j; key = c.entry_key.ensures j })) ∙ not-false _ c.if-not-entry_good.false-raw))
-    (ap (dot_before c.loop-i.last) (sym c.entry_dot-d.ensures) ∙ sym c.before-in-loop-i.ensures ∙ not-true _ c.if-not-before.true-raw) in
-    pair_bad a.mine a.own a.table.now (decode_clock a.rows.now)
-    (field b 4 2) (entry b) q.0 i q.1 (omega (arith, c.entry_count-n.ensures, c.loop-i-test.true))
-    q.2
-    ∙ ap (dots_good a.mine a.own a.table.now (decode_clock a.rows.now)) (sym (entries_are b (search rules)))
+pub returns-then-all : goal.returns-then-all
+returns-then-all c =
+    let a = c.args in
+    let n = c.entry_count-n.result in
+    let near = λ (i : ℕ). listed_before (entry a.b.now (i - 1)) (entry a.b.now i) in
+    let h = (goal.at.returns-then-all c).After-all in
+    in_order a.mine a.own a.table.now (decode_clock a.rows.now) n (entry a.b.now) (each h) c.if-all.true
+    (all_from_yields_List near _ _ _ c.all-then-all.ensures.ran (YieldsList-from_range 1 n (n - 1) (cc) refl) (λ x b q k. search (rules, tests)) ∙ range_all near 1 (n - 1))
+    ∙ listed h
 
-pub loop-i-preserved : goal.loop-i-preserved
-loop-i-preserved c = let a = c.args in
-    let b = a.b.now in
-    one_more c.loop-i.invariant
-    (omega (arith, c.entry_count-n.ensures, c.loop-i-test.true))
-    c.entry_dot-d.ensures
-    (sym (c.entry_good.ensures ∙ ap (entry_good a.mine a.own a.table.now (decode_clock a.rows.now)) (λ j. record { dot = c.entry_dot-d.ensures j; key = c.entry_key.ensures j })) ∙ not-false _ c.if-not-entry_good.false-raw)
-    (sym c.before-in-loop-i.ensures ∙ not-false _ c.if-not-before.false-raw)
-
-pub returns : goal.returns
-returns c = let a = c.args in
-    let b = a.b.now in
-    all_good a.mine a.own a.table.now (decode_clock a.rows.now)
-    (field b 4 2) (entry b) (λ i l. c.loop-i.invariant.good i (omega (arith, c.entry_count-n.ensures, c.loop-i-test.false)))
-    (λ i j l m. c.loop-i.invariant.pairs i j l (omega (arith, c.entry_count-n.ensures, c.loop-i-test.false)))
-    ∙ ap (dots_good a.mine a.own a.table.now (decode_clock a.rows.now)) (sym (entries_are b (search rules)))
+pub returns-else-all : goal.returns-else-all
+returns-else-all c =
+    let a = c.args in
+    let h = (goal.at.returns-else-all c).After-all in
+    not_each a.mine a.own a.table.now (decode_clock a.rows.now) c.entry_count-n.result (entry a.b.now) (each h) c.if-all.false ∙ listed h

@@ -1,5 +1,4 @@
 -- `dots::insert_dot` meets its contract. Move, write, count: the bytes are those of the longer list (Edits). Assumes nothing.
-use Prim.Native.Nat.{◌-◌}
 use native.Mathlib.Omega.{arith}
 use Rattle.block.proofs.Numbers.{bytes_of}
 use Rattle.dots.proofs.Edits.{count_is, few_dots, dot_inserted}

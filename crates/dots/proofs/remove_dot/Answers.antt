@@ -1,5 +1,4 @@
 -- `dots::remove_dot` meets its contract. Move, clear, count: the bytes are those of the shorter list (Edits). Assumes nothing.
-use Prim.Native.Nat.{◌-◌}
 use native.Mathlib.Omega.{arith}
 use Rattle.block.proofs.Numbers.{bytes_of}
 use Rattle.dots.proofs.Edits.{count_is, few_dots, dot_removed}

@@ -1,5 +1,5 @@
 -- `dots::write_entry` meets its contract. Four stores side by side are one part (Edits). Assumes nothing.
-use Prim.Native.Nat.{◌+◌, ◌*◌, ◌-◌}
+use Prim.Native.Nat.{◌+◌, ◌*◌}
 use native.Mathlib.Omega.{arith}
 use Rattle.dots.proofs.Edits.{entry_put}
 use Rattle.dots.proofs.write_entry.Goals as goal

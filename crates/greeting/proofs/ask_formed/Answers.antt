@@ -1,5 +1,4 @@
 -- `greeting::ask_formed` meets its contract. Test by test (Formed). Assumes nothing.
-use Prim.Native.Nat.{◌-◌}
 use mathlib.Core.Path.{ap, ap₂, sym, ◌∙◌}
 use borrow.Author.Tests.{not-true, not-false}
 use Rattle.numbers.specs.declared.Controller.{Controller}

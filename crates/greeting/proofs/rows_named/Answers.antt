@@ -1,18 +1,16 @@
--- `greeting::rows_named` meets its contract. The invariant: the rows before n pass (Rounds). Assumes nothing.
-use Prim.Native.Nat.{◌-◌}
-use mathlib.Core.Path.{sym, ◌∙◌}
-use borrow.Author.Tests.{not-true, not-false}
-use Rattle.head.proofs.Rounds.{none_yet, one_more, all_done, one_fails}
+-- `greeting::rows_named` meets its contract: a chain over the controllers. Assumes nothing.
+use Rattle.std.proofs.Common.{rules, tests}
+use Rattle.std.proofs.lemmas.Iterator.{YieldsList-from_range}
+use Rattle.std.proofs.lemmas.Iterator.Search.{all_from_yields_List}
+use Prim.Native.Nat.{ℕ}
+use mathlib.Core.Path.{refl}
+use mathlib.Core.Bool.{◌||◌}
+use Rattle.numbers.specs.Numbers.{controller}
+use Rattle.meaning.specs.CrewTable.{in_some_job}
+use Rattle.meaning.specs.Clock.{row}
+use Rattle.meaning.specs.Message.{is_none}
+use Rattle.layout.specs.Clocks.{decode_clock}
 use Rattle.greeting.proofs.rows_named.Goals as goal
 
-pub loop-n-init : goal.loop-n-init
-loop-n-init c = none_yet
-
-pub returns-then-not-row_named : goal.returns-then-not-row_named
-returns-then-not-row_named c = one_fails c.loop-n.invariant c.loop-n-test.true (sym c.row_named.ensures ∙ not-true _ c.if-not-row_named.true-raw)
-
-pub loop-n-preserved : goal.loop-n-preserved
-loop-n-preserved c = one_more c.loop-n.invariant c.loop-n-test.true (sym c.row_named.ensures ∙ not-false _ c.if-not-row_named.false-raw)
-
 pub returns : goal.returns
-returns c = all_done c.loop-n.invariant c.loop-n-test.false
+returns c = let a = c.args in all_from_yields_List (λ (n : ℕ). in_some_job a.table.now (controller n) || is_none (row (decode_clock a.rows.now) (controller n))) _ _ _ c.all.ensures.ran (YieldsList-from_range 1 9 8 (cc) refl) (λ x b q k. search (rules, tests))

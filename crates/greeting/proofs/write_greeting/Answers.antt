@@ -1,5 +1,4 @@
 -- `greeting::write_greeting` meets its contract. Store by store (Stores). Assumes nothing.
-use Prim.Native.Nat.{◌-◌}
 use mathlib.Core.Path.{refl}
 use Rattle.block.specs.Kind.{kind_number}
 use Rattle.block.proofs.Numbers.{bytes_of}

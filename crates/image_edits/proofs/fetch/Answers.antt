@@ -1,4 +1,6 @@
 -- `image::fetch` meets its contract. The record that was found, or the empty object (Fetching). Assumes nothing.
+use Rattle.block.specs.Kind.{kind_number}
+use Rattle.block.proofs.Begins.{kind_fits}
 use Prim.Native.Nat.{◌-◌}
 use native.Mathlib.Omega.{arith}
 use Rattle.block.proofs.Numbers.{bytes_of}
@@ -11,22 +13,22 @@ pub find_point-requires : goal.find_point-requires
 find_point-requires c = let img = c.args.image.now in let small = bytes_of c.args.image.now c.type_inv.image in let p = c.requires in let a = c.args in (p.0, search_few img small p.0 p.1 a.count p.2, search_ascends img small p.0 p.1 a.count p.2 p.3)
 
 pub overflow_add-at : goal.overflow_add-at
-overflow_add-at c = let img = c.args.image.now in let small = bytes_of c.args.image.now c.type_inv.image in let p = c.requires in let a = c.args in omega (arith, (image_decoded img small p.0).few, found_inside img small p.0 p.1 a.count p.2 p.3 a.k a.kind a.sender c.find_point.result c.find_point.ensures c.in-Ok.i c.in-Ok.is)
+overflow_add-at c = let img = c.args.image.now in let small = bytes_of c.args.image.now c.type_inv.image in let p = c.requires in let a = c.args in omega (arith, (image_decoded img small p.0).few, found_inside img small p.0 p.1 a.count p.2 p.3 a.k (kind_number a.kind) a.sender c.find_point.result c.find_point.ensures c.in-Ok.i c.in-Ok.is)
 
 pub overflow_mul-at : goal.overflow_mul-at
-overflow_mul-at c = let img = c.args.image.now in let small = bytes_of c.args.image.now c.type_inv.image in let p = c.requires in let a = c.args in omega (arith, (image_decoded img small p.0).few, found_inside img small p.0 p.1 a.count p.2 p.3 a.k a.kind a.sender c.find_point.result c.find_point.ensures c.in-Ok.i c.in-Ok.is)
+overflow_mul-at c = let img = c.args.image.now in let small = bytes_of c.args.image.now c.type_inv.image in let p = c.requires in let a = c.args in omega (arith, (image_decoded img small p.0).few, found_inside img small p.0 p.1 a.count p.2 p.3 a.k (kind_number a.kind) a.sender c.find_point.result c.find_point.ensures c.in-Ok.i c.in-Ok.is)
 
 pub overflow_add-at-in-Ok : goal.overflow_add-at-in-Ok
-overflow_add-at-in-Ok c = let img = c.args.image.now in let small = bytes_of c.args.image.now c.type_inv.image in let p = c.requires in let a = c.args in omega (arith, (image_decoded img small p.0).few, found_inside img small p.0 p.1 a.count p.2 p.3 a.k a.kind a.sender c.find_point.result c.find_point.ensures c.in-Ok.i c.in-Ok.is)
+overflow_add-at-in-Ok c = let img = c.args.image.now in let small = bytes_of c.args.image.now c.type_inv.image in let p = c.requires in let a = c.args in omega (arith, (image_decoded img small p.0).few, found_inside img small p.0 p.1 a.count p.2 p.3 a.k (kind_number a.kind) a.sender c.find_point.result c.find_point.ensures c.in-Ok.i c.in-Ok.is)
 
 pub slice_bounds-copy_in-end : goal.slice_bounds-copy_in-end
-slice_bounds-copy_in-end c = let img = c.args.image.now in let small = bytes_of c.args.image.now c.type_inv.image in let p = c.requires in let a = c.args in omega (arith, (image_decoded img small p.0).few, found_inside img small p.0 p.1 a.count p.2 p.3 a.k a.kind a.sender c.find_point.result c.find_point.ensures c.in-Ok.i c.in-Ok.is)
+slice_bounds-copy_in-end c = let img = c.args.image.now in let small = bytes_of c.args.image.now c.type_inv.image in let p = c.requires in let a = c.args in omega (arith, (image_decoded img small p.0).few, found_inside img small p.0 p.1 a.count p.2 p.3 a.k (kind_number a.kind) a.sender c.find_point.result c.find_point.ensures c.in-Ok.i c.in-Ok.is)
 
 pub relabel-requires : goal.relabel-requires
-relabel-requires c = let img = c.args.image.now in let small = bytes_of c.args.image.now c.type_inv.image in let p = c.requires in let a = c.args in (omega arith, copied_laid img small p.0 p.1 a.count p.2 p.3 a.k a.kind a.sender c.find_point.result c.find_point.ensures c.in-Ok.i c.in-Ok.is a.out.now _ p.4 c.copy_in.ensures)
+relabel-requires c = let img = c.args.image.now in let small = bytes_of c.args.image.now c.type_inv.image in let p = c.requires in let a = c.args in (omega arith, copied_laid img small p.0 p.1 a.count p.2 p.3 a.k (kind_number a.kind) a.sender c.find_point.result c.find_point.ensures c.in-Ok.i c.in-Ok.is a.out.now _ p.4 c.copy_in.ensures)
 
 pub returns-in-Ok : goal.returns-in-Ok
-returns-in-Ok c = let img = c.args.image.now in let small = bytes_of c.args.image.now c.type_inv.image in let p = c.requires in let a = c.args in fetched img small p.0 p.1 a.count p.2 p.3 a.k a.kind a.sender c.find_point.result c.find_point.ensures c.in-Ok.i c.in-Ok.is a.out.now _ p.4 c.copy_in.ensures _ c.relabel.ensures
+returns-in-Ok c = let img = c.args.image.now in let small = bytes_of c.args.image.now c.type_inv.image in let p = c.requires in let a = c.args in fetched img small p.0 p.1 a.count p.2 p.3 a.k (kind_number a.kind) a.sender c.find_point.result c.find_point.ensures c.in-Ok.i c.in-Ok.is a.out.now _ p.4 c.copy_in.ensures _ c.relabel.ensures
 
 pub returns-in-Err : goal.returns-in-Err
-returns-in-Err c = let img = c.args.image.now in let small = bytes_of c.args.image.now c.type_inv.image in let p = c.requires in let a = c.args in fetched_none img small p.0 p.1 a.count p.2 p.3 a.k a.kind a.sender c.find_point.result c.find_point.ensures c.in-Err.field-0 c.in-Err.is _ (omega arith) (search rules) (search rules) (search rules) c.write_empty.ensures
+returns-in-Err c = let img = c.args.image.now in let small = bytes_of c.args.image.now c.type_inv.image in let p = c.requires in let a = c.args in fetched_none img small p.0 p.1 a.count p.2 p.3 a.k (kind_number a.kind) a.sender c.find_point.result c.find_point.ensures c.in-Err.field-0 c.in-Err.is _ (kind_fits a.kind) (search rules) (search rules) (search rules) c.write_empty.ensures
