@@ -55,14 +55,6 @@ crewed_at b {count} l r c i h =
 -- ---- what a context covers: d is the dot x as it was read, and n its entry
 
 module _ (c : Context) {d x : Dot} {n : Counter} (r : d ≡ x) (s : n ≡ entry c d.who) where
-  pub read_covers : d.count.0 ≤ n.0 → covers c x ≡ true
-  read_covers l = subst (λ (y : Dot). covers c y ≡ true) r (le_covers c d (subst (λ (m : Counter). d.count.0 ≤ m.0) s l))
-
-  pub read_misses : n.0 < d.count.0 → covers c x ≡ false
-  unfolding covers
-  read_misses l =
-      subst (λ (y : Dot). leb y.count.0 (entry c y.who).0 ≡ false) r (lt-leb d.count.0 (entry c d.who).0 (subst (λ (m : Counter). m.0 < d.count.0) s l))
-
   module _ (t : CrewTable) (job : ℕ) (k : Clock) (crew : Crew d.who) where
     pub fill_covers : d.count.0 ≤ n.0 → true ≡ covers (fill_context t job k c) x
     fill_covers l =

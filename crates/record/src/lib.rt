@@ -88,14 +88,7 @@ fn slots_laid_out(b: &[u8], count: usize) -> bool
     requires { (length b.now ≡ 512) × (count ≤ 8) }
     ensures { result ≡ every (upto count (λ i. same_list (encode_slot form_1 (decode_slot form_1 (cut b.now (40 + 32 * i) 32))) (cut b.now (40 + 32 * i) 32))) }
 {
-    let mut i: usize = 0;
-    while i < count {
-        if !slot_laid_out(b, 40 + 32 * i) {
-            return false;
-        }
-        i += 1;
-    }
-    true
+    (0..count).all(|i| slot_laid_out(b, 40 + 32 * i))
 }
 
 // "Byte 0 kind, 1 format (1), 2-3 position in the sequence"
@@ -191,14 +184,7 @@ fn each_formed(b: &[u8], count: usize, table: &[u8], job: u8) -> bool
     requires { (length b.now ≡ 512) × (count ≤ 8) × (length table.now ≡ 8) }
     ensures { result ≡ every (upto count (λ i. version_formed table.now job (decode_slot form_1 (cut b.now (40 + 32 * i) 32)))) }
 {
-    let mut i: usize = 0;
-    while i < count {
-        if !version_formed(b, i, table, job) {
-            return false;
-        }
-        i += 1;
-    }
-    true
+    (0..count).all(|i| version_formed(b, i, table, job))
 }
 
 // "versions .. ascending by dot": each comes before the next.
@@ -206,14 +192,7 @@ fn versions_ascend(b: &[u8], count: usize) -> bool
     requires { (length b.now ≡ 512) × (count ≤ 8) }
     ensures { result ≡ every (upto (count - 1) (λ i. version_before (decode_slot form_1 (cut b.now (40 + 32 * i) 32)) (decode_slot form_1 (cut b.now (40 + 32 * (i + 1)) 32)))) }
 {
-    let mut i: usize = 0;
-    while i + 1 < count {
-        if !version_dot(b, i).before(version_dot(b, i + 1)) {
-            return false;
-        }
-        i += 1;
-    }
-    true
+    (1..count).all(|i| version_dot(b, i - 1).before(version_dot(b, i)))
 }
 
 // Only holders of the job are named in a context.
@@ -233,14 +212,7 @@ fn entries_formed(b: &[u8], table: &[u8], job: u8) -> bool
     requires { (length b.now ≡ 512) × (length table.now ≡ 8) }
     ensures { result ≡ every (upto 8 (λ i. holds table.now (controller (i + 1)) job || eqb (entry (decode_point form_1 b.now).object.context (controller (i + 1))).0 0)) }
 {
-    let mut i: u8 = 0;
-    while i < 8 {
-        if !entry_formed(b, table, job, Controller(i + 1)) {
-            return false;
-        }
-        i += 1;
-    }
-    true
+    (1..9).all(|n| entry_formed(b, table, job, Controller(n)))
 }
 
 // A well-formed point: its key, its versions and its context.
@@ -269,18 +241,10 @@ pub fn covered_as_is(b: &[u8]) -> bool
     requires { (length b.now ≡ 512) × (field b.now 5 1 ≤ 8) × (crewed (decode_point form_1 b.now).object.versions ≡ true) }
     ensures { result ≡ covers_all (decode_point form_1 b.now).object.context (decode_point form_1 b.now).object.versions }
 {
-    let count = version_count(b) as usize;
-    let mut i: usize = 0;
-    while i < count {
+    (0..version_count(b) as usize).all(|i| {
         let d = version_dot(b, i);
-        let e = context_entry(b, d.who);
-        let c = d.count;
-        if e.0 < c.0 {
-            return false;
-        }
-        i += 1;
-    }
-    true
+        d.count.0 <= context_entry(b, d.who).0
+    })
 }
 
 // "Fill raises each context entry n, for n holding the point's job, to the base of row n": so a holder's base covers too.
@@ -306,15 +270,7 @@ pub fn covered_filled(b: &[u8], table: &[u8], rows: &[u8]) -> bool
     requires { (length b.now ≡ 512) × (field b.now 5 1 ≤ 8) × (length table.now ≡ 8) × (length rows.now ≡ 96) × (crewed (decode_point form_1 b.now).object.versions ≡ true) }
     ensures { result ≡ covers_all (fill_context table.now (decode_point form_1 b.now).key.job (decode_clock rows.now) (decode_point form_1 b.now).object.context) (decode_point form_1 b.now).object.versions }
 {
-    let count = version_count(b) as usize;
-    let mut i: usize = 0;
-    while i < count {
-        if !covered_at(b, i, table, rows) {
-            return false;
-        }
-        i += 1;
-    }
-    true
+    (0..version_count(b) as usize).all(|i| covered_at(b, i, table, rows))
 }
 
 // All version dots are in the clock.
@@ -322,15 +278,7 @@ pub fn all_known(b: &[u8], rows: &[u8]) -> bool
     requires { (length b.now ≡ 512) × (field b.now 5 1 ≤ 8) × (length rows.now ≡ 96) × (crewed (decode_point form_1 b.now).object.versions ≡ true) }
     ensures { result ≡ all? (λ v. in_clock (decode_clock rows.now) v.dot) (decode_point form_1 b.now).object.versions }
 {
-    let count = version_count(b) as usize;
-    let mut i: usize = 0;
-    while i < count {
-        if !parts::in_clock(rows, version_dot(b, i)) {
-            return false;
-        }
-        i += 1;
-    }
-    true
+    (0..version_count(b) as usize).all(|i| parts::in_clock(rows, version_dot(b, i)))
 }
 
 // No version has a value: "length (255 = deleted)".
@@ -338,14 +286,7 @@ pub fn all_deleted(b: &[u8], count: usize) -> bool
     requires { (length b.now ≡ 512) × (count ≤ 8) }
     ensures { result ≡ every (upto count (λ i. eqb (field b.now (41 + 32 * i) 1) 255)) }
 {
-    let mut i: usize = 0;
-    while i < count {
-        if said_length(b, i) != 255 {
-            return false;
-        }
-        i += 1;
-    }
-    true
+    (0..count).all(|i| said_length(b, i) == 255)
 }
 
 // "A record goes when its stripped context is empty and no version has a value."
