@@ -16,10 +16,9 @@ use Rattle.block.specs.Fields.{field, upto}
 use Rattle.block.specs.Block.{block_at}
 use Rattle.block.proofs.Arrays.{in_upto, upto_in}
 use Rattle.block.proofs.ByIndex.{less_or_same}
-use Rattle.block.proofs.Passing.{Passing, none_passed, one_more, one_fails, all_passed, every_true, every_at, all_upto, some_upto}
+use Rattle.block.proofs.Passing.{Passing, one_more, one_fails, all_passed, every_true, every_at, all_upto, some_upto}
 use Rattle.meaning.specs.Object.{Version, has_dot}
 use Rattle.meaning.specs.State.{Stored}
-use Rattle.layout.specs.PointBlock.{form_1, decode_stored}
 use Rattle.laws.proofs.MergeLaws.{has_dot_of, of_has_dot}
 use Rattle.record.proofs.Reading.{version_at}
 use Rattle.apart.specs.Apart.{point_of, apart, apart_from_earlier}
@@ -55,21 +54,6 @@ stands run n d = some? (λ p. has_dot p.object.versions d) (upto n (point_of run
 module _ (run : List ℕ) (n : ℕ) (d : Dot) where
   pub by_points : stands run n d ≡ not (every (upto n (lacks run d)))
   by_points = some_upto (λ (p : Stored). has_dot p.object.versions d) n (point_of run)
-
-  module _ {i : ℕ} (P : Passing n (lacks run d) i) where
-    -- r is what was answered of the i-th
-    module _ (l : i < n) {r : Bool} (q : r ≡ has_dot (decode_stored form_1 (lent run i)).object.versions d) where
-      said : lacks run d i ≡ not r
-      said = ap not (sym (q ∙ ap (λ (b : List ℕ). has_dot (decode_stored form_1 b).object.versions d) (block_part run i)))
-
-      pub found : r ≡ true → true ≡ stands run n d
-      found t = ap not (one_fails P l (said ∙ ap not t)) ∙ sym by_points
-
-      pub not_yet : r ≡ false → Passing n (lacks run d) (i + 1)
-      not_yet t = one_more P l (said ∙ ap not t)
-
-    pub not_found : n ≤ i → false ≡ stands run n d
-    not_found l = ap not (all_passed P l) ∙ sym by_points
 
 -- ---- each dot of the j-th point
 
@@ -123,55 +107,51 @@ pub record Going (run : List ℕ) (j : ℕ) (ms : List ℕ) (i : ℕ) : Type 0 w
   pub noted : Noted ms run j
   pub own : (k : ℕ) → k < i → both_marked ms (dot_at run j k) ≡ true
 
-module _ (run : List ℕ) (j : ℕ) (ms : List ℕ) where
-  pub none_gone : Noted ms run j → Going run j ms 0
-  none_gone h = record { passing = none_passed _ _; noted = h; own = λ k l. absurd (omega arith) }
+module _ (run : List ℕ) (j : ℕ) (ms : List ℕ) (i : ℕ) (G : Going run j ms i) where
+  -- the next dot, as it was read
+  module _ (l : i < count run j) (d : Dot) (p : d ≡ (version_at (lent run j) i).dot) where
+    read : d ≡ dot_at run j i
+    read = p ∙ ap (λ (b : List ℕ). (version_at b i).dot) (block_part run j)
 
-  module _ (i : ℕ) (G : Going run j ms i) where
-    -- the next dot, as it was read
-    module _ (l : i < count run j) (d : Dot) (p : d ≡ (version_at (lent run j) i).dot) where
-      read : d ≡ dot_at run j i
-      read = p ∙ ap (λ (b : List ℕ). (version_at b i).dot) (block_part run j)
+    unmarked_stands_not : both_marked ms d ≡ false → stands run j d ≡ false
+    unmarked_stands_not f =
+        by_points run j d
+        ∙ ap not (every_true j (lacks run d) (λ k h. ap not (unmarked_none ms (point_of run k).object.versions d (G.noted.stand k h) f)))
 
-      unmarked_stands_not : both_marked ms d ≡ false → stands run j d ≡ false
-      unmarked_stands_not f =
-          by_points run j d
-          ∙ ap not (every_true j (lacks run d) (λ k h. ap not (unmarked_none ms (point_of run k).object.versions d (G.noted.stand k h) f)))
+    pub stood : count run j ≤ 8 → stands run j d ≡ true → false ≡ apart_from_earlier run j
+    stood few t = one_fails G.passing l (ap not (ap (stands run j) (sym read) ∙ t)) ∙ sym (by_dots run j few)
 
-      pub stood : count run j ≤ 8 → stands run j d ≡ true → false ≡ apart_from_earlier run j
-      stood few t = one_fails G.passing l (ap not (ap (stands run j) (sym read) ∙ t)) ∙ sym (by_dots run j few)
+    abbrev size : length ms ≡ 32
+    size = G.noted.size
 
-      abbrev size : length ms ≡ 32
-      size = G.noted.size
+    one_gone : stands run j d ≡ false → Going run j (with_both ms d) (i + 1)
+    one_gone f =
+        record {
+          passing = one_more G.passing l (ap not (ap (stands run j) (sym read) ∙ f));
+          noted = record { size = both_length ms d ∙ size; stand = λ k h. noted_still ms d size (point_of run k).object.versions (G.noted.stand k h) };
+          own =
+              below_more _ _ (λ k h. old_stand ms d size (dot_at run j k) (G.own k h))
+              (subst (λ (e : Dot). both_marked (with_both ms d) e ≡ true) read (new_stand ms d size));
+        }
 
-      one_gone : stands run j d ≡ false → Going run j (with_both ms d) (i + 1)
-      one_gone f =
-          record {
-            passing = one_more G.passing l (ap not (ap (stands run j) (sym read) ∙ f));
-            noted = record { size = both_length ms d ∙ size; stand = λ k h. noted_still ms d size (point_of run k).object.versions (G.noted.stand k h) };
-            own =
-                below_more _ _ (λ k h. old_stand ms d size (dot_at run j k) (G.own k h))
-                (subst (λ (e : Dot). both_marked (with_both ms d) e ≡ true) read (new_stand ms d size));
-          }
+    -- what was answered of its marks, and the marks then
+    module _ {r : Bool} {next : List ℕ} (said : r ≡ both_marked ms d) (then : next ≡ with_both ms d) where
+      pub was_marked : stands run j d ≡ false → Going run j next (i + 1)
+      was_marked f = subst (λ (x : List ℕ). Going run j x (i + 1)) (sym then) (one_gone f)
 
-      -- what was answered of its marks, and the marks then
-      module _ {r : Bool} {next : List ℕ} (said : r ≡ both_marked ms d) (then : next ≡ with_both ms d) where
-        pub was_marked : stands run j d ≡ false → Going run j next (i + 1)
-        was_marked f = subst (λ (x : List ℕ). Going run j x (i + 1)) (sym then) (one_gone f)
+      pub was_new : r ≡ false → Going run j next (i + 1)
+      was_new f = was_marked (unmarked_stands_not (sym said ∙ f))
 
-        pub was_new : r ≡ false → Going run j next (i + 1)
-        was_new f = was_marked (unmarked_stands_not (sym said ∙ f))
+  module _ (few : count run j ≤ 8) (h : count run j ≤ i) where
+    pub all_fresh : true ≡ apart_from_earlier run j
+    all_fresh = all_passed G.passing h ∙ sym (by_dots run j few)
 
-    module _ (few : count run j ≤ 8) (h : count run j ≤ i) where
-      pub all_fresh : true ≡ apart_from_earlier run j
-      all_fresh = all_passed G.passing h ∙ sym (by_dots run j few)
-
-      pub all_noted : Noted ms run (j + 1)
-      all_noted = record { size = G.noted.size; stand = λ k l. ⊎_elim (G.noted.stand k) (last k) (less_or_same k j l) }
-        where
-          last : (k : ℕ) → k ≡ j → all? (λ v. both_marked ms v.dot) (point_of run k).object.versions ≡ true
-          last k e =
-              ap (λ (n : ℕ). all? (λ v. both_marked ms v.dot) (point_of run n).object.versions) e
-              ∙ ap (all? (λ v. both_marked ms v.dot)) (versions_are (block_at run j) few)
-              ∙ all_upto (λ v. both_marked ms v.dot) (count run j) (version_at (block_at run j))
-              ∙ every_true (count run j) (λ n. both_marked ms (dot_at run j n)) (λ n b. G.own n (omega arith))
+    pub all_noted : Noted ms run (j + 1)
+    all_noted = record { size = G.noted.size; stand = λ k l. ⊎_elim (G.noted.stand k) (last k) (less_or_same k j l) }
+      where
+        last : (k : ℕ) → k ≡ j → all? (λ v. both_marked ms v.dot) (point_of run k).object.versions ≡ true
+        last k e =
+            ap (λ (n : ℕ). all? (λ v. both_marked ms v.dot) (point_of run n).object.versions) e
+            ∙ ap (all? (λ v. both_marked ms v.dot)) (versions_are (block_at run j) few)
+            ∙ all_upto (λ v. both_marked ms v.dot) (count run j) (version_at (block_at run j))
+            ∙ every_true (count run j) (λ n. both_marked ms (dot_at run j n)) (λ n b. G.own n (omega arith))

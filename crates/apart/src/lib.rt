@@ -17,15 +17,7 @@ pub fn has_version(b: &[u8], d: Dot) -> bool
     requires { (length b.now ≡ 512) × (field b.now 5 1 ≤ 8) }
     ensures { result ≡ has_dot (decode_stored form_1 b.now).object.versions d }
 {
-    let count = record::version_count(b) as usize;
-    let mut i: usize = 0;
-    while i < count {
-        if d.same(record::version_dot(b, i)) {
-            return true;
-        }
-        i += 1;
-    }
-    false
+    (0..record::version_count(b) as usize).any(|i| d.same(record::version_dot(b, i)))
 }
 
 // One of the first n points has a version of this dot.
@@ -33,15 +25,7 @@ pub fn among(points: &[u8], n: usize, d: Dot) -> bool
     requires { (512 * n ≤ length points.now) × Few points.now n }
     ensures { result ≡ some? (λ p. has_dot p.object.versions d) (upto n (point_of points.now)) }
 {
-    let mut i: usize = 0;
-    while i < n {
-        let at = 512 * i;
-        if has_version(&points[at..at + 512], d) {
-            return true;
-        }
-        i += 1;
-    }
-    false
+    (0..n).any(|i| has_version(&points[512 * i..512 * i + 512], d))
 }
 
 // Sets mark k, and answers whether it stood there already.
@@ -74,16 +58,11 @@ fn apart_from_earlier(points: &[u8], j: usize, marks: &mut [u64; 32]) -> bool
 {
     let at = 512 * j;
     let b = &points[at..at + 512];
-    let count = record::version_count(b) as usize;
-    let mut i: usize = 0;
-    while i < count {
+    for i in 0..record::version_count(b) as usize {
         let d = record::version_dot(b, i);
-        if mark_dot(marks, d) {
-            if among(points, j, d) {
-                return false;
-            }
+        if mark_dot(marks, d) && among(points, j, d) {
+            return false;
         }
-        i += 1;
     }
     true
 }
@@ -94,12 +73,10 @@ pub fn points_apart(points: &[u8], n: usize) -> bool
     ensures { result ≡ every (upto n (apart_from_earlier points.now)) }
 {
     let mut marks: [u64; 32] = [0; 32];
-    let mut j: usize = 0;
-    while j < n {
+    for j in 0..n {
         if !apart_from_earlier(points, j, &mut marks) {
             return false;
         }
-        j += 1;
     }
     true
 }

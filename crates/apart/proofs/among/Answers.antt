@@ -1,23 +1,24 @@
--- `apart::among` meets its contract. The invariant is `Passing`: the points before i lack the dot (Earlier). Assumes nothing.
-use Prim.Native.Nat.{◌-◌}
-use Rattle.block.proofs.Passing.{none_passed}
-use Rattle.apart.proofs.Lent.{lent_size, lent_few}
-use Rattle.apart.proofs.Earlier.{found, not_yet, not_found}
-use native.Mathlib.Omega.{arith}
+-- `apart::among` meets its contract. Assumes nothing.
+use Rattle.std.proofs.Common.{rules, tests}
+use Prim.Native.Nat.{ℕ}
+use mathlib.Core.Path.{ap}
+use mathlib.Core.List.{List}
+use Rattle.std.proofs.lemmas.Iterator.{serves_from_Range}
+use Rattle.meaning.specs.Object.{has_dot}
+use Rattle.layout.specs.PointBlock.{form_1, decode_stored}
+use Rattle.record.proofs.Chains.{chain_any}
+use Rattle.block.proofs.Runs.{block_part}
+use Rattle.apart.specs.Apart.{point_of}
+use Rattle.apart.proofs.Lent.{lent, lent_size, lent_few}
 use Rattle.apart.proofs.among.Goals as goal
 
-pub loop-i-init : goal.loop-i-init
-loop-i-init c = none_passed _ _
-
-pub has_version-requires : goal.has_version-requires
-has_version-requires c = let run = c.args.points.now in
-    (lent_size run c.args.n c.loop-i.i (omega arith) c.requires.0, lent_few run c.args.n c.loop-i.i (omega arith) c.requires.1)
-
-pub returns-then-has_version : goal.returns-then-has_version
-returns-then-has_version c = found c.args.points.now c.args.n c.args.d c.loop-i.invariant (omega arith) c.has_version.ensures c.if-has_version.true
-
-pub loop-i-preserved : goal.loop-i-preserved
-loop-i-preserved c = not_yet c.args.points.now c.args.n c.args.d c.loop-i.invariant (omega arith) c.has_version.ensures c.if-has_version.false
+pub any-requires-clause-callable : goal.any-requires-clause-callable
+any-requires-clause-callable c =
+    serves_from_Range (λ x q k. search (rules, tests))
+    (λ x l h. let size = lent_size c.args.points.now c.args.n x h c.requires.0 in let few = lent_few c.args.points.now c.args.n x h c.requires.1 in search rules)
 
 pub returns : goal.returns
-returns c = not_found c.args.points.now c.args.n c.args.d c.loop-i.invariant (omega arith)
+returns c =
+    chain_any c.args.n (λ i. has_dot (decode_stored form_1 (lent c.args.points.now i)).object.versions c.args.d) (λ p. has_dot p.object.versions c.args.d)
+    (point_of c.args.points.now) c.any.ensures.ran (cc) (λ x b q k. search (rules, tests))
+    (λ i l. ap (λ (b : List ℕ). has_dot (decode_stored form_1 b).object.versions c.args.d) (block_part c.args.points.now i))
