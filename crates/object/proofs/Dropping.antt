@@ -18,6 +18,33 @@ use Rattle.record_edits.specs.Written.{Written, lay_point, point_block, with_ver
 use Rattle.record.proofs.Reading.{version_at, versions_are}
 use Rattle.record_edits.proofs.Edits.{count_is, few_versions}
 
+-- the first i stand where they stood, and these are left of the others: the next one stays, or goes
+module _ {A : Type 0} (xs left : List A) (d : A) (i : ℕ) (l : i < length xs) where
+  pub left_length : i < length (take (suc i) xs ++ left)
+  left_length = omega (arith, length-append (take (suc i) xs) left, length-take (suc i) xs)
+
+  pub left_at : get_or (take (suc i) xs ++ left) i d ≡ get_or xs i d
+  left_at = lib.ListN.get_or-append (take (suc i) xs) left d i (omega (arith, length-take (suc i) xs)) ∙ get_or-take (suc i) xs i d (omega arith)
+
+  pub left_stays : take (suc i) xs ++ left ≡ take i xs ++ (get_or xs i d ∷ left)
+  left_stays = ap (λ (u : List A). u ++ left) (take-suc xs i d l) ∙ append_assoc (take i xs) (get_or xs i d ∷ []) left
+
+  pub left_goes : remove_at (take (suc i) xs ++ left) i ≡ take i xs ++ left
+  left_goes =
+      ap (λ (u : List A). remove_at u i) left_stays
+      ∙ ap₂ (λ (u v : List A). u ++ drop 1 v) (take_at (take i xs) (get_or xs i d ∷ left) i size) (drop_at (take i xs) (get_or xs i d ∷ left) i size)
+    where
+      size : length (take i xs) ≡ i
+      size = length-take i xs ∙ omega arith
+
+-- a test that was asked of the next one keeps it, or not
+module _ {A : Type 0} (xs : List A) (d : A) (i : ℕ) (l : i < length xs) where
+  pub kept_one : (f : A → Bool) → f (get_or xs i d) ≡ true → keep f (drop i xs) ≡ get_or xs i d ∷ keep f (drop (suc i) xs)
+  kept_one f t = ap (keep f) (drop-cons xs i d l) ∙ ap (λ (b : Bool). cons_if b (get_or xs i d) (keep f (drop (suc i) xs))) t
+
+  pub kept_none : (f : A → Bool) → f (get_or xs i d) ≡ false → keep f (drop i xs) ≡ keep f (drop (suc i) xs)
+  kept_none f t = ap (keep f) (drop-cons xs i d l) ∙ ap (λ (b : Bool). cons_if b (get_or xs i d) (keep f (drop (suc i) xs))) t
+
 module _ {A : Type 0} (f : A → Bool) (xs : List A) (d : A) where
   -- those from the i-th on are tested, and those that failed are gone
   abbrev pub tested : ℕ → List A
@@ -28,26 +55,17 @@ module _ {A : Type 0} (f : A → Bool) (xs : List A) (d : A) where
       ap (λ (l : List A). take (length xs) xs ++ keep f l) (drop_of_length-le xs {i = length xs} (omega arith)) ∙ append-nil (take (length xs) xs) ∙ take_all (length xs) xs (omega arith)
 
   pub tested_length : (i : ℕ) → i < length xs → i < length (tested (suc i))
-  tested_length i l = omega (arith, length-append (take (suc i) xs) (keep f (drop (suc i) xs)), length-take (suc i) xs)
+  tested_length i l = left_length xs (keep f (drop (suc i) xs)) d i l
 
   pub tested_at : (i : ℕ) → i < length xs → get_or (tested (suc i)) i d ≡ get_or xs i d
-  tested_at i l =
-      lib.ListN.get_or-append (take (suc i) xs) (keep f (drop (suc i) xs)) d i (omega (arith, length-take (suc i) xs)) ∙ get_or-take (suc i) xs i d (omega arith)
+  tested_at i l = left_at xs (keep f (drop (suc i) xs)) d i l
 
   pub passes : (i : ℕ) → i < length xs → f (get_or xs i d) ≡ true → tested (suc i) ≡ tested i
   passes i l t =
-      ap (λ (u : List A). u ++ keep f (drop (suc i) xs)) (take-suc xs i d l) ∙ append_assoc (take i xs) (get_or xs i d ∷ []) (keep f (drop (suc i) xs))
-      ∙ ap (λ (u : List A). take i xs ++ u) (sym (ap (keep f) (drop-cons xs i d l) ∙ ap (λ (b : Bool). cons_if b (get_or xs i d) (keep f (drop (suc i) xs))) t))
+      left_stays xs (keep f (drop (suc i) xs)) d i l ∙ ap (λ (u : List A). take i xs ++ u) (sym (kept_one xs d i l f t))
 
   pub fails : (i : ℕ) → i < length xs → f (get_or xs i d) ≡ false → remove_at (tested (suc i)) i ≡ tested i
-  fails i l t =
-      ap (λ (u : List A). remove_at (u ++ keep f (drop (suc i) xs)) i) (take-suc xs i d l)
-      ∙ ap (λ (u : List A). remove_at u i) (append_assoc (take i xs) (get_or xs i d ∷ []) (keep f (drop (suc i) xs)))
-      ∙ ap₂ (λ (u v : List A). u ++ drop 1 v) (take_at (take i xs) (get_or xs i d ∷ keep f (drop (suc i) xs)) i size) (drop_at (take i xs) (get_or xs i d ∷ keep f (drop (suc i) xs)) i size)
-      ∙ ap (λ (u : List A). take i xs ++ u) (sym (ap (keep f) (drop-cons xs i d l) ∙ ap (λ (b : Bool). cons_if b (get_or xs i d) (keep f (drop (suc i) xs))) t))
-    where
-      size : length (take i xs) ≡ i
-      size = length-take i xs ∙ omega arith
+  fails i l t = left_goes xs (keep f (drop (suc i) xs)) d i l ∙ ap (λ (u : List A). take i xs ++ u) (sym (kept_none xs d i l f t))
 
 -- ---- in a block
 

@@ -1,18 +1,17 @@
 -- A given context against the filled one, entry by entry. Assumes nothing.
 use Rattle.std.specs.Prelude.{if◌then◌else◌}
-use Prim.Native.Nat.{ℕ, ◌+◌, ◌-◌, ◌*◌, max, ◌≤◌, ◌<◌}
-use mathlib.Core.Path.{◌≡◌, ap, sym, ◌∙◌}
-use mathlib.Core.Bool.{Bool, true, false, not}
+use Prim.Native.Nat.{ℕ, ◌+◌, ◌-◌, ◌*◌, max, ◌<◌}
+use mathlib.Core.Path.{◌≡◌, refl, ap, sym, ◌∙◌}
+use mathlib.Core.Bool.{Bool}
 use mathlib.Core.List.{List}
 use native.Mathlib.Omega.{arith}
 use lib.ListN.{get_or}
 use lib.Dec.{ltb}
 use Rattle.numbers.specs.declared.Controller.{Controller}
 use Rattle.numbers.specs.declared.Counter.{Counter}
-use Rattle.numbers.specs.Words.{map, some?}
-use Rattle.numbers.specs.Numbers.{controller, counter, controllers}
+use Rattle.numbers.specs.Words.{map}
+use Rattle.numbers.specs.Numbers.{controller, counter}
 use Rattle.block.specs.Fields.{field}
-use Rattle.block.proofs.Passing.{Passing, one_fails, all_passed, some_upto}
 use Rattle.row.specs.declared.Row.{Row}
 use Rattle.meaning.specs.CrewTable.{CrewTable, holds}
 use Rattle.meaning.specs.Clock.{Clock, row}
@@ -47,9 +46,12 @@ module _ (t : CrewTable) (job : ℕ) (k : Clock) (c : Context) (given : List ℕ
       entry_given : entry (map counter given) (controller (i + 1)) ≡ counter (get_or given i 0)
       entry_given = given_entry given (i + 1 - 1) ∙ ap (λ (j : ℕ). counter (get_or given j 0)) (back i)
 
-  module _ {i : ℕ} (P : Passing 8 (λ j. not (above (controller (j + 1)))) i) where
-    pub one_above : i < 8 → above (controller (i + 1)) ≡ true → true ≡ some? above controllers
-    one_above l e = ap not (one_fails P l (ap not e)) ∙ sym (some_upto above 8 (λ j. controller (j + 1)))
+-- the test as it is made at place i, of a stored context's bytes
+module _ (t : CrewTable) (job : ℕ) (k : Clock) (stored given : List ℕ) where
+  abbrev pub above_at : ℕ → Bool
+  above_at i =
+      let e = counter (field stored (4 * i) 4) in
+      ltb (if holds t (controller (i + 1)) job then counter (max e.0 (row k (controller (i + 1))).base) else e).0 (get_or given i 0)
 
-    pub none_above : 8 ≤ i → false ≡ some? above controllers
-    none_above l = ap not (all_passed P l) ∙ sym (some_upto above 8 (λ j. controller (j + 1)))
+  pub above_there : (i : ℕ) → i < 8 → above_at i ≡ above t job k (decode_context stored) given (controller (i + 1))
+  above_there i l = sym (read_above t job k (decode_context stored) given i l (read_stored stored i l refl) refl refl refl)

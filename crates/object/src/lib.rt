@@ -1,16 +1,17 @@
 // Fill, strip, and what goes of a point's versions, in one point block of the lent bytes. The block's check is made after the last of them.
 #![tactic(auto)]
 
-ghost use Rattle.std.specs.Prelude.{◌≡◌, true, not, ◌≤◌, ◌<◌, max, length, leb, ltb, if◌then◌else◌};
+ghost use Rattle.std.specs.Prelude.{◌≡◌, Bool, true, not, ◌≤◌, ◌<◌, max, length, leb, ltb, if◌then◌else◌};
 ghost use Rattle.numbers.specs.Words.{keep, map, some?, ascends?, place};
 ghost use Rattle.numbers.specs.Numbers.{counter, controllers, Crew};
 ghost use Rattle.block.specs.Fields.{field};
 ghost use Rattle.block.specs.Block.{Laid};
 ghost use Rattle.meaning.specs.Context.{entry, is_empty, covers, fill_context, strip_context};
-ghost use Rattle.meaning.specs.Object.{version_before, has_value, fill, strip, gone};
+ghost use Rattle.meaning.specs.Object.{Version, version_before, has_value, fill, strip, gone};
 ghost use Rattle.layout.specs.PointBlock.{form_1, encode_slot, decode_slot, decode_context, decode_point};
 ghost use Rattle.layout.specs.Clocks.{decode_clock};
 ghost use Rattle.record.specs.Crewed.{crewed};
+ghost use Rattle.object.specs.Dropping.{MayBeAsked, SaysWhatGoes};
 ghost use Rattle.object.specs.Versions.{VersionIn};
 ghost use Rattle.record_edits.specs.Written.{lay_point, point_block, with_object, with_versions};
 
@@ -44,14 +45,12 @@ pub fn fill_in(b: &mut [u8], table: &[u8], rows: &[u8])
         × Laid lay_point point_block b.new }
 {
     let job = block::u8_at(b, 4);
-    let mut i: u8 = 0;
-    while i < 8 {
-        let n = Controller(i + 1);
+    for who in 1..9 {
+        let n = Controller(who);
         let e = record::context_entry(b, n);
         let r = parts::row_at(rows, n);
         let filled = filled_entry(e, parts::holds(table, n, job), r.base);
         record_edits::set_entry(b, n, filled);
-        i += 1;
     }
 }
 
@@ -60,28 +59,35 @@ pub fn strip_off(b: &mut [u8], rows: &[u8])
     requires { (length b.old ≡ 512) × Laid lay_point point_block b.old × (length rows.now ≡ 96) }
     ensures { (point_block b.new ≡ with_object (point_block b.old) (strip (decode_clock rows.now) (decode_point form_1 b.old).object)) × Laid lay_point point_block b.new }
 {
-    let mut i: u8 = 0;
-    while i < 8 {
-        let n = Controller(i + 1);
+    for who in 1..9 {
+        let n = Controller(who);
         let e = record::context_entry(b, n);
         let r = parts::row_at(rows, n);
         record_edits::set_entry(b, n, stripped_entry(e, r.base));
-        i += 1;
     }
 }
 
-// The versions that are deletions go. The last is looked at first, so that those still to come stand where they stood.
+// Versions go: those of which `goes` says so, asked of the block and of the version's place in it. The last is looked at first, so that those
+// still to come stand where they stood.
+pub fn drop_where<F: Fn(&[u8], usize) -> bool>(b: &mut [u8], goes: F)
+    requires laid { (length b.old ≡ 512) × Laid lay_point point_block b.old }
+    requires asked { MayBeAsked (F.pre goes) (decode_point form_1 b.old).object.versions }
+    ensures { (stays : Version → Bool) → SaysWhatGoes (F.post goes) stays
+        → (point_block b.new ≡ with_versions (point_block b.old) (keep stays (decode_point form_1 b.old).object.versions)) × Laid lay_point point_block b.new }
+{
+    for i in (0..record::version_count(b) as usize).rev() {
+        if goes(b, i) {
+            record_edits::remove_version(b, i);
+        }
+    }
+}
+
+// The versions that are deletions go.
 pub fn drop_deleted(b: &mut [u8])
     requires { (length b.old ≡ 512) × Laid lay_point point_block b.old }
     ensures { (point_block b.new ≡ with_versions (point_block b.old) (keep (λ v. has_value v.contents) (decode_point form_1 b.old).object.versions)) × Laid lay_point point_block b.new }
 {
-    let mut i = record::version_count(b) as usize;
-    while 0 < i {
-        i -= 1;
-        if record::said_length(b, i) == 255 {
-            record_edits::remove_version(b, i);
-        }
-    }
+    drop_where(b, |b, i| record::said_length(b, i) == 255);
 }
 
 // A given context of eight counters covers the dot.
@@ -98,16 +104,9 @@ pub fn staying(b: &[u8], context: &[u32]) -> usize
     requires { (length b.now ≡ 512) × (field b.now 5 1 ≤ 8) × (length context.now ≡ 8) × (crewed (decode_point form_1 b.now).object.versions ≡ true) }
     ensures { result ≡ length (keep (λ v. not (covers (map counter context.now) v.dot)) (decode_point form_1 b.now).object.versions) }
 {
-    let count = record::version_count(b) as usize;
-    let mut stay: usize = 0;
-    let mut i: usize = 0;
-    while i < count {
-        if !given_covers(context, record::version_dot(b, i)) {
-            stay += 1;
-        }
-        i += 1;
-    }
-    stay
+    (0..record::version_count(b) as usize)
+        .filter(|i| !given_covers(context, record::version_dot(b, *i)))
+        .count()
 }
 
 // "drop the versions that the given context covers"
@@ -115,13 +114,7 @@ pub fn drop_covered(b: &mut [u8], context: &[u32])
     requires { (length b.old ≡ 512) × Laid lay_point point_block b.old × (length context.now ≡ 8) × (crewed (decode_point form_1 b.old).object.versions ≡ true) }
     ensures { (point_block b.new ≡ with_versions (point_block b.old) (keep (λ v. not (covers (map counter context.now) v.dot)) (decode_point form_1 b.old).object.versions)) × Laid lay_point point_block b.new }
 {
-    let mut i = record::version_count(b) as usize;
-    while 0 < i {
-        i -= 1;
-        if given_covers(context, record::version_dot(b, i)) {
-            record_edits::remove_version(b, i);
-        }
-    }
+    drop_where(b, |b, i| given_covers(context, record::version_dot(b, i)));
 }
 
 // "Strip sets to 0 each entry not above its base": no entry would be left.
@@ -129,17 +122,10 @@ fn strips_to_none(b: &[u8], rows: &[u8]) -> bool
     requires { (length b.now ≡ 512) × (length rows.now ≡ 96) }
     ensures { result ≡ is_empty (strip_context (decode_clock rows.now) (decode_point form_1 b.now).object.context) }
 {
-    let mut i: u8 = 0;
-    while i < 8 {
-        let n = Controller(i + 1);
-        let e = record::context_entry(b, n);
-        let r = parts::row_at(rows, n);
-        if r.base < e.0 {
-            return false;
-        }
-        i += 1;
-    }
-    true
+    (1..9).all(|who| {
+        let n = Controller(who);
+        record::context_entry(b, n).0 <= parts::row_at(rows, n).base
+    })
 }
 
 // "A record goes when its stripped context is empty and no version has a value": whether it would, stripped by these rows. Nothing is written,
@@ -159,19 +145,13 @@ pub fn ahead(stored: &[u8], job: u8, table: &[u8], rows: &[u8], context: &[u32])
     requires { (length stored.now ≡ 32) × (length table.now ≡ 8) × (length rows.now ≡ 96) × (length context.now ≡ 8) }
     ensures { result ≡ some? (λ n. ltb (entry (fill_context table.now job (decode_clock rows.now) (decode_context stored.now)) n).0 (entry (map counter context.now) n).0) controllers }
 {
-    let mut i: u8 = 0;
-    while i < 8 {
+    (0..8).any(|i| {
         let n = Controller(i + 1);
         let at = i as usize;
         let e = Counter(block::u32_at(stored, 4 * at));
-        let r = parts::row_at(rows, n);
-        let present = filled_entry(e, parts::holds(table, n, job), r.base);
-        if present.0 < context[at] {
-            return true;
-        }
-        i += 1;
-    }
-    false
+        let present = filled_entry(e, parts::holds(table, n, job), parts::row_at(rows, n).base);
+        present.0 < context[at]
+    })
 }
 
 // Where the version of this dot stands, or the place before which it would stand: "ascending by dot". They are at most eight, so each is

@@ -1,40 +1,14 @@
--- `object::drop_deleted` meets its contract. The invariant: the versions from the i-th on are tested (Dropping). Assumes nothing.
-use Prim.Native.Nat.{◌-◌}
-use mathlib.Core.Path.{refl}
-use native.Mathlib.Omega.{arith}
-use Rattle.block.proofs.Numbers.{bytes_of}
+-- `object::drop_deleted` meets its contract. Assumes nothing.
+use Rattle.std.proofs.Common.{rules, tests}
+use Prim.Native.Nat.{◌+◌, ◌*◌}
+use mathlib.Core.Path.{◌≡◌, sym, ◌∙◌}
+use lib.Dec.{eqb}
+use Rattle.block.specs.Fields.{field}
 use Rattle.meaning.specs.Object.{has_value}
-use Rattle.record_edits.specs.Written.{point_block}
-use Rattle.object.proofs.Dropping.{dropping_none, dropping_inside, dropping_small, dropping_keeps, dropping_drops, dropping_all}
-use Rattle.object.proofs.Entries.{is_deleted, is_value}
+use Rattle.record.proofs.Questions.{said_deleted}
 use Rattle.object.proofs.drop_deleted.Goals as goal
 
-pub loop-i-init : goal.loop-i-init
-loop-i-init c = let p = c.requires in dropping_none (point_block c.args.b.now) (λ v. has_value v.contents) c.args.b.now c.version_count-i.result (bytes_of c.args.b.now c.slice_known-1.given) p.0 refl p.1 c.version_count-i.ensures
-
-pub overflow_sub-i : goal.overflow_sub-i
-overflow_sub-i c = omega arith
-
-pub said_length-requires : goal.said_length-requires
-said_length-requires c = (c.loop-i.invariant.size, dropping_small (point_block c.args.b.now) (λ v. has_value v.contents) c.loop-i.i c.loop-i.b c.loop-i.invariant c.loop-i-test.true)
-
-pub remove_version-requires : goal.remove_version-requires
-remove_version-requires c = (c.loop-i.invariant.size, c.loop-i.invariant.laid, dropping_inside (point_block c.args.b.now) (λ v. has_value v.contents) c.loop-i.i c.loop-i.b c.loop-i.invariant c.loop-i-test.true)
-
-pub loop-i-smaller-then-said_length : goal.loop-i-smaller-then-said_length
-loop-i-smaller-then-said_length c = omega arith
-
-pub loop-i-preserved-then-said_length : goal.loop-i-preserved-then-said_length
-loop-i-preserved-then-said_length c = dropping_drops (point_block c.args.b.now) (λ v. has_value v.contents) c.loop-i.i c.loop-i.b c.loop-i.invariant c.loop-i-test.true _ (bytes_of _ c.type_inv.b) (omega (arith, c.loop-i.invariant.size)) (is_deleted c.loop-i.b (c.loop-i.i - 1) c.said_length.result c.said_length.ensures c.if-said_length.true) c.remove_version.ensures
-
-pub loop-i-smaller : goal.loop-i-smaller
-loop-i-smaller c = omega arith
-
-pub loop-i-preserved : goal.loop-i-preserved
-loop-i-preserved c = dropping_keeps (point_block c.args.b.now) (λ v. has_value v.contents) c.loop-i.i c.loop-i.b c.loop-i.invariant c.loop-i-test.true (is_value c.loop-i.b (c.loop-i.i - 1) c.said_length.result c.said_length.ensures c.if-said_length.false)
-
-pub shape_of-b : goal.shape_of-b
-shape_of-b c = omega (arith, c.loop-i.invariant.size)
-
 pub returns : goal.returns
-returns c = dropping_all (point_block c.args.b.now) (λ v. has_value v.contents) c.loop-i.i c.loop-i.b c.loop-i.invariant c.loop-i-test.false
+returns c =
+    c.drop_where.ensures (λ v. has_value v.contents)
+    (λ x i r size small k. let says : r ≡ eqb (field x.now (41 + 32 * i) 1) 255 = search (rules, tests) in says ∙ sym (said_deleted x.now i))

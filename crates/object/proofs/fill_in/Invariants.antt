@@ -1,18 +1,12 @@
 -- `object::fill_in` meets its contract. The invariant: the entries of the first controllers are filled (Sweeping). Assumes nothing.
-use Rattle.std.specs.Prelude.{if◌then◌else◌}
-use Prim.Native.Nat.{◌-◌, max}
-use Rattle.numbers.specs.Numbers.{counter}
-use Rattle.meaning.specs.CrewTable.{holds}
-use Rattle.meaning.specs.Clock.{row}
-use Rattle.meaning.specs.Context.{entry}
+use Prim.Native.Nat.{◌-◌}
 use Rattle.layout.specs.PointBlock.{form_1, decode_point}
 use Rattle.layout.specs.Clocks.{decode_clock}
 use Rattle.record_edits.specs.Written.{point_block}
+use Rattle.object.proofs.Entries.{filling}
 use Rattle.object.proofs.Sweeping.{Swept}
 use Rattle.object.proofs.fill_in.Given as goal
 
-abbrev pub invariant-loop-i : goal.invariant-loop-i
-invariant-loop-i l = Swept (point_block l.initial.b) (λ n. if holds l.table n (decode_point form_1 l.initial.b).key.job then counter (max (entry (decode_point form_1 l.initial.b).object.context n).0 (row (decode_clock l.rows) n).base) else entry (decode_point form_1 l.initial.b).object.context n) l.i l.b
-
-abbrev pub decreases-loop-i : goal.decreases-loop-i
-decreases-loop-i l = 8 - l.i
+abbrev pub invariant-loop-who : goal.invariant-loop-who
+invariant-loop-who l =
+    Swept (point_block l.initial.b) (filling l.table (decode_point form_1 l.initial.b).key.job (decode_clock l.rows) (decode_point form_1 l.initial.b).object.context) (l.who - 1) l.b

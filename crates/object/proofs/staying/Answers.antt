@@ -1,45 +1,35 @@
--- `object::staying` meets its contract. The invariant: of the versions before i, `stay` are not covered (Counting). Assumes nothing.
-use Prim.Native.Nat.{◌-◌}
-use mathlib.Core.Path.{ap, sym, subst, ◌∙◌}
-use mathlib.Core.Bool.{not}
+-- `object::staying` meets its contract. Assumes nothing.
+use Rattle.std.proofs.Common.{rules, tests}
+use Prim.Native.Nat.{ℕ, ◌<◌}
+use mathlib.Core.Path.{refl, ap, sym, ◌∙◌}
 use mathlib.Core.List.{List}
 use native.Mathlib.Omega.{arith}
 use lib.ListN.{length}
-use Rattle.numbers.specs.declared.Dot.{Dot}
-use Rattle.numbers.specs.Words.{keep, map}
-use Rattle.numbers.specs.Numbers.{counter, Crew}
-use Rattle.block.specs.Fields.{field}
-use Rattle.meaning.specs.Context.{covers}
+use Rattle.std.specs.declared.ops.Range.{Range}
+use Rattle.std.proofs.lemmas.Iterator.{serves_from_Range}
+use Rattle.numbers.specs.Words.{keep}
+use Rattle.block.specs.Fields.{upto}
 use Rattle.meaning.specs.Object.{Version}
+use Rattle.record.proofs.Chains.{chain_count}
 use Rattle.record.proofs.Reading.{version_at, versions_are}
 use Rattle.record.proofs.Questions.{crewed_at}
-use Rattle.object.proofs.Counting.{none_counted, counted_more, counted_past, counted_all, stays}
+use Rattle.object.proofs.Counting.{stays}
 use Rattle.object.proofs.staying.Goals as goal
-use Rattle.object.proofs.staying.Goals.{then-not-given_covers, else-not-given_covers}
 
-pub loop-i-init : goal.loop-i-init
-loop-i-init c = let a = c.args in none_counted (stays a.context.now) (field a.b.now 5 1) (version_at a.b.now)
-
-pub version_dot-requires : goal.version_dot-requires
-version_dot-requires c = (omega arith, omega (arith, c.version_count-count.ensures))
-
-pub given_covers-requires : goal.given_covers-requires
-given_covers-requires c = let b = c.args.b.now in
-    let crew = crewed_at b (omega arith) c.version_count-count.ensures c.requires.3 c.loop-i.i (omega arith) in
-    (omega arith, subst (λ (x : Dot). Crew x.who) (sym c.version_dot.ensures) crew)
-
-pub overflow_add-stay : goal.overflow_add-stay
-overflow_add-stay c = omega (arith, c.loop-i.invariant.few)
-
-pub loop-i-preserved : goal.loop-i-preserved
-loop-i-preserved c = let a = c.args in
-    let said = ap not (sym (c.given_covers.ensures ∙ ap (covers (map counter a.context.now)) c.version_dot.ensures)) in
-    elim c.if-not-given_covers.branch [
-      | then-not-given_covers w ↦ counted_more c.loop-i.invariant (omega (arith, c.version_count-count.ensures)) (said ∙ w.if-not-given_covers.true-raw) w.stay-is
-      | else-not-given_covers w ↦ counted_past c.loop-i.invariant (omega (arith, c.version_count-count.ensures)) (said ∙ w.if-not-given_covers.false-raw) w.stay-is
-    ]
+pub count-requires-clause-can : goal.count-requires-clause-can
+count-requires-clause-can c = (
+  tt,
+  tt,
+  serves_from_Range (λ x q k. search (rules, tests))
+      (λ x l h.
+      let inside : x < c.version_count.result = omega (arith, ap (λ (s : Range ℕ). s.end) c.filter.ensures.source) in
+      let small : x < 8 = omega (arith, c.version_count.ensures) in
+      let crew = crewed_at c.args.b.now (omega arith) c.version_count.ensures c.requires.3 x inside in
+      search rules),
+)
 
 pub returns : goal.returns
-returns c = let a = c.args in
-    counted_all c.loop-i.invariant (omega (arith, c.version_count-count.ensures))
-    ∙ ap (λ (l : List Version). length (keep (stays a.context.now) l)) (sym (versions_are a.b.now (omega arith)))
+returns c =
+    chain_count c.version_count.result (λ i. stays c.args.context.now (version_at c.args.b.now i)) (stays c.args.context.now) (version_at c.args.b.now)
+    c.count.ensures.ran (cc) c.filter.ensures.closure (λ x b q k. search (rules, tests)) (λ i l. refl)
+    ∙ ap (λ (l : List Version). length (keep (stays c.args.context.now) l)) (ap (λ (k : ℕ). upto k (version_at c.args.b.now)) c.version_count.ensures ∙ sym (versions_are c.args.b.now (omega arith)))

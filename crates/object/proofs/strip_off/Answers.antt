@@ -1,49 +1,39 @@
 -- `object::strip_off` meets its contract. The invariant: the entries of the first controllers are stripped (Sweeping). Assumes nothing.
 use Rattle.std.specs.Prelude.{if◌then◌else◌}
-use Prim.Native.Nat.{◌-◌}
 use mathlib.Core.Path.{refl, ap₂, ◌∙◌}
+use Prim.Native.Nat.{◌-◌}
 use native.Mathlib.Omega.{arith}
 use lib.Dec.{leb}
 use Rattle.numbers.specs.declared.Counter.{Counter}
 use Rattle.numbers.specs.Numbers.{counter}
 use Rattle.block.proofs.Numbers.{bytes_of}
 use Rattle.row.specs.declared.Row.{Row}
-use Rattle.meaning.specs.Clock.{row}
-use Rattle.meaning.specs.Context.{entry, strip_context}
+use Rattle.meaning.specs.Context.{strip_context}
 use Rattle.meaning.specs.Object.{strip}
 use Rattle.layout.specs.PointBlock.{form_1, decode_point}
 use Rattle.layout.specs.Clocks.{decode_clock}
 use Rattle.layout.proofs.Decoded.{point_decoded}
 use Rattle.record_edits.specs.Written.{point_block}
-use Rattle.object.proofs.Sweeping.{sweeping_none, sweeping_entry, sweeping_more, sweeping_all}
+use Rattle.object.proofs.Sweeping.{sweeping_none, swept_entry_of, sweeping_next, sweeping_all}
+use Rattle.object.proofs.Entries.{stripping}
 use Rattle.object.proofs.strip_off.Goals as goal
 
-pub loop-i-init : goal.loop-i-init
-loop-i-init c = let p = c.requires in sweeping_none (point_block c.args.b.now) (λ n. if leb (entry (decode_point form_1 c.args.b.now).object.context n).0 (row (decode_clock c.args.rows.now) n).base then counter 0 else entry (decode_point form_1 c.args.b.now).object.context n) c.args.b.now p.0 (point_decoded c.args.b.now (bytes_of c.args.b.now c.type_inv.b) p.0).context.eight refl p.1
+pub loop-who-init : goal.loop-who-init
+loop-who-init c = let b = c.args.b.now in
+    let f = stripping (decode_clock c.args.rows.now) (decode_point form_1 b).object.context in
+    sweeping_none (point_block b) f b c.requires.0 (point_decoded b (bytes_of b c.type_inv.b) c.requires.0).context.eight refl c.requires.1
 
-pub overflow_add-n : goal.overflow_add-n
-overflow_add-n c = omega arith
-
-pub context_entry-e-requires : goal.context_entry-e-requires
-context_entry-e-requires c = (c.loop-i.invariant.size, (omega arith, omega arith))
-
-pub row_at-r-requires : goal.row_at-r-requires
-row_at-r-requires c = (c.requires.2, (omega arith, omega arith))
-
-pub set_entry-requires : goal.set_entry-requires
-set_entry-requires c = (c.loop-i.invariant.size, (omega arith, omega arith), c.loop-i.invariant.laid)
-
-pub overflow_add-i : goal.overflow_add-i
-overflow_add-i c = omega arith
-
-pub loop-i-smaller : goal.loop-i-smaller
-loop-i-smaller c = omega arith
-
-pub loop-i-preserved : goal.loop-i-preserved
-loop-i-preserved c = let S = c.loop-i.invariant in sweeping_more (point_block c.args.b.now) (λ n. if leb (entry (decode_point form_1 c.args.b.now).object.context n).0 (row (decode_clock c.args.rows.now) n).base then counter 0 else entry (decode_point form_1 c.args.b.now).object.context n) c.loop-i.i c.loop-i.b S c.loop-i-test.true _ c.stripped_entry.result (omega (arith, S.size)) (c.stripped_entry.ensures ∙ ap₂ (λ (e : Counter) (r : Row). if leb e.0 r.base then counter 0 else e) (c.context_entry-e.ensures ∙ sweeping_entry (point_block c.args.b.now) (λ n. if leb (entry (decode_point form_1 c.args.b.now).object.context n).0 (row (decode_clock c.args.rows.now) n).base then counter 0 else entry (decode_point form_1 c.args.b.now).object.context n) c.loop-i.i c.loop-i.b S c.loop-i-test.true) c.row_at-r.ensures) c.set_entry.ensures
-
-pub shape_of-b : goal.shape_of-b
-shape_of-b c = omega (arith, c.loop-i.invariant.size)
+pub loop-who-preserved : goal.loop-who-preserved
+loop-who-preserved c = let b = c.args.b.now in
+    let f = stripping (decode_clock c.args.rows.now) (decode_point form_1 b).object.context in
+    let S = c.loop-who.invariant in
+    sweeping_next (point_block b) f c.loop-who.who c.loop-who.b S (omega arith) (omega arith) _ c.stripped_entry.result (omega (arith, S.size))
+    (c.stripped_entry.ensures
+    ∙ ap₂ (λ (e : Counter) (r : Row). if leb e.0 r.base then counter 0 else e) (c.context_entry-e.ensures ∙ swept_entry_of (point_block b) f c.loop-who.who c.loop-who.b S (omega arith) (omega arith)) c.row_at-r.ensures)
+    c.set_entry.ensures
 
 pub returns : goal.returns
-returns c = unfold strip strip_context in (sweeping_all (point_block c.args.b.now) (λ n. if leb (entry (decode_point form_1 c.args.b.now).object.context n).0 (row (decode_clock c.args.rows.now) n).base then counter 0 else entry (decode_point form_1 c.args.b.now).object.context n) c.loop-i.i c.loop-i.b c.loop-i.invariant c.loop-i-test.false)
+unfolding strip strip_context
+returns c = let b = c.args.b.now in
+    let f = stripping (decode_clock c.args.rows.now) (decode_point form_1 b).object.context in
+    sweeping_all (point_block b) f (c.loop-who.who - 1) c.loop-who.b c.loop-who.invariant (omega arith)
