@@ -8,6 +8,7 @@ use Rattle.numbers.specs.Dot.{same_dot}
 use Rattle.block.specs.Fields.{field, upto}
 use Rattle.meaning.specs.Object.{has_dot}
 use Rattle.layout.specs.PointBlock.{form_1, decode_point, decode_stored}
+use Rattle.record.proofs.Formed.{some_versions}
 use Rattle.record.proofs.Reading as reading
 use Rattle.record.proofs.Reading.{version_at}
 
@@ -23,4 +24,4 @@ versions_are b few = stored_versions b ∙ reading.versions_are b few
 pub by_tests : (b : List ℕ) (d : Dot) {n : ℕ} → field b 5 1 ≤ 8 → n ≡ field b 5 1
     → some? (λ w. same_dot d w.dot) (upto n (version_at b)) ≡ has_dot (decode_stored form_1 b).object.versions d
 unfolding has_dot
-by_tests b d few e = ap (some? (λ w. same_dot d w.dot)) (ap (λ (k : ℕ). upto k (version_at b)) e ∙ sym (versions_are b few))
+by_tests b d few e = some_versions b (λ w. same_dot d w.dot) few e ∙ ap (some? (λ w. same_dot d w.dot)) (sym (stored_versions b))

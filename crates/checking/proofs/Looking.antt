@@ -5,12 +5,10 @@ use mathlib.Core.Bool.{Bool, true, false, not}
 use mathlib.Core.List.{List}
 use lib.ListN.{length}
 use Rattle.numbers.specs.Words.{every, some?}
-use Rattle.block.specs.Fields.{field, upto}
+use Rattle.block.specs.Fields.{upto}
 use Rattle.block.proofs.Arrays.{upto_length}
 use Rattle.block.proofs.Passing.{some_upto, Passing, one_more, one_fails, all_passed}
-use Rattle.layout.specs.PointBlock.{form_1, decode_point}
 use Rattle.layout.specs.Image.{decode}
-use Rattle.record.proofs.Reading.{version_at, versions_are}
 use Rattle.image.specs.Parts.{stored_count}
 use Rattle.image.specs.Apart.{point_at}
 use Rattle.image.proofs.Counted.{points_are}
@@ -31,10 +29,6 @@ module _ {A : Type 0} (f : A → Bool) (xs : List A) (n : ℕ) (e : ℕ → A) (
 
   pub nowhere : n ≤ i → false ≡ some? f xs
   nowhere l = ap not (all_passed before l) ∙ looked
-
--- the versions of a block, as many as were read
-pub versions_read : (b : List ℕ) (n : ℕ) → field b 5 1 ≤ 8 → n ≡ field b 5 1 → (decode_point form_1 b).object.versions ≡ upto n (version_at b)
-versions_read b n few r = versions_are b few ∙ ap (λ (k : ℕ). upto k (version_at b)) (sym r)
 
 -- the records of an image, as many as were counted
 pub records_read : (img : List ℕ) (n : ℕ) → n ≡ length (decode img).points → (decode img).points ≡ upto n (point_at img)

@@ -38,15 +38,7 @@ fn version_above(b: &[u8], own: Controller, base: u32) -> bool
     requires { (length b.now ≡ 512) × (field b.now 5 1 ≤ 8) }
     ensures { result ≡ some? (λ v. dot_above own base v.dot) (decode_point form_1 b.now).object.versions }
 {
-    let count = record::version_count(b) as usize;
-    let mut i: usize = 0;
-    while i < count {
-        if dot_above(record::version_dot(b, i), own, base) {
-            return true;
-        }
-        i += 1;
-    }
-    false
+    (0..record::version_count(b) as usize).any(|i| dot_above(record::version_dot(b, i), own, base))
 }
 
 // A dot, or the own entry of the context as it stands in the message.
@@ -103,15 +95,7 @@ fn known_otherwise(image: &[u8], count: usize, b: &[u8], p: &[u8]) -> bool
         × (length p.now ≡ 512) × Laid lay_point point_block p.now × (ascends? version_before (decode_point form_1 p.now).object.versions ≡ true) }
     ensures { result ≡ some? (clashes_beside (decode image.now).points (decode_point form_1 p.now).object.versions) (decode_point form_1 b.now).object.versions }
 {
-    let many = record::version_count(b) as usize;
-    let mut j: usize = 0;
-    while j < many {
-        if version_otherwise(image, count, b, j, p) {
-            return true;
-        }
-        j += 1;
-    }
-    false
+    (0..record::version_count(b) as usize).any(|j| version_otherwise(image, count, b, j, p))
 }
 
 // Each version of the message's block b, whose point has no record: a record that has its dot is another point's.
@@ -120,14 +104,7 @@ fn new_otherwise(image: &[u8], count: usize, b: &[u8]) -> bool
     ensures { result ≡ some? (λ v. stored_somewhere (decode image.now).points v.dot) (decode_point form_1 b.now).object.versions }
 {
     let many = record::version_count(b) as usize;
-    let mut j: usize = 0;
-    while j < many {
-        if stored_somewhere(image, count, record::version_dot(b, j)) {
-            return true;
-        }
-        j += 1;
-    }
-    false
+    (0..many).any(|j| stored_somewhere(image, count, record::version_dot(b, j)))
 }
 
 // Each of the records. "No dot stands in two records", so the point's own record is looked at first.

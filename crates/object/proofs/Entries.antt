@@ -13,7 +13,7 @@ use Rattle.numbers.specs.declared.Controller.{Controller}
 use Rattle.numbers.specs.declared.Counter.{Counter}
 use Rattle.numbers.specs.declared.Dot.{Dot}
 use Rattle.numbers.specs.Words.{map}
-use Rattle.numbers.specs.Numbers.{controller, counter, is_controller, Crew}
+use Rattle.numbers.specs.Numbers.{counter, is_controller, Crew}
 use Rattle.numbers.proofs.Tests.{◌∈◌}
 use Rattle.numbers.proofs.Lists.{all_in}
 use Rattle.numbers.proofs.Controllers.{crew_is}
@@ -67,14 +67,11 @@ pub filled_parts : (t : CrewTable) (k : Clock) (c : Context) (job : ℕ) (n : Co
     → (if h then counter (max e.0 r.base) else e) ≡ (if holds t n job then counter (max (entry c n).0 (row k n).base) else entry c n)
 filled_parts t k c job n p q s = λ i. if q i then counter (max (p i).0 (s i).base) else p i
 
--- that of controller i + 1 in a block, whose job was read too
-pub entry_is : (t rows b : List ℕ) (i : ℕ) {e : Counter} {h : Bool} {j : ℕ} {r : Row} → e ≡ entry (decode_point form_1 b).object.context (controller (i + 1)) → h ≡ holds t (controller (i + 1)) j → j ≡ field b 4 1
-    → r ≡ row (decode_clock rows) (controller (i + 1))
-    → (if h then counter (max e.0 r.base) else e)
-    ≡ (if holds t (controller (i + 1)) (decode_point form_1 b).key.job then counter (max (entry (decode_point form_1 b).object.context (controller (i + 1))).0 (row (decode_clock rows) (controller (i + 1))).base)
-    else entry (decode_point form_1 b).object.context (controller (i + 1)))
-entry_is t rows b i p q s u =
-    filled_parts t (decode_clock rows) (decode_point form_1 b).object.context (decode_point form_1 b).key.job (controller (i + 1)) p (q ∙ ap (holds t (controller (i + 1))) (s ∙ job)) u
+-- that of a block, whose job was read too
+pub filling_is : (t rows b : List ℕ) (n : Controller) {e : Counter} {h : Bool} {j : ℕ} {r : Row} → e ≡ entry (decode_point form_1 b).object.context n → h ≡ holds t n j → j ≡ field b 4 1 → r ≡ row (decode_clock rows) n
+    → (if h then counter (max e.0 r.base) else e) ≡ filling t (decode_point form_1 b).key.job (decode_clock rows) (decode_point form_1 b).object.context n
+filling_is t rows b n p q s u =
+    filled_parts t (decode_clock rows) (decode_point form_1 b).object.context (decode_point form_1 b).key.job n p (q ∙ ap (holds t n) (s ∙ job)) u
   where
     job : field b 4 1 ≡ (decode_point form_1 b).key.job
     job = unfold decode_point in refl

@@ -132,6 +132,25 @@ module _ (w : Written) (f : Controller → Counter) where
       laid = r.1;
     }
 
+  -- the same by the next controller's number
+  module _ (n : ℕ) (b : List ℕ) (S : Swept w f (n - 1) b) (low : 1 ≤ n) (high : n < 9) where
+    back : n - 1 + 1 ≡ n
+    back = omega arith
+
+    pub swept_entry_of : entry (point_block b).point.object.context (controller n) ≡ entry w.point.object.context (controller n)
+    swept_entry_of =
+        subst (λ (k : ℕ). entry (point_block b).point.object.context (controller k) ≡ entry w.point.object.context (controller k)) back
+        (sweeping_entry (n - 1) b S (omega arith))
+
+    pub sweeping_next : (x : List ℕ) (e : Counter) → length x ≡ 512 → e ≡ f (controller n) → (point_block x ≡ put_entry (point_block b) (controller n) e) × Laid lay_point point_block x → Swept w f (n + 1 - 1) x
+    sweeping_next x e size q r =
+        subst (λ (k : ℕ). Swept w f k x) there
+        (sweeping_more (n - 1) b S (omega arith) x e size (q ∙ ap (λ (k : ℕ). f (controller k)) (sym back))
+        (r.0 ∙ ap (λ (k : ℕ). put_entry (point_block b) (controller k) e) (sym back), r.1))
+      where
+        there : n - 1 + 1 ≡ n + 1 - 1
+        there = omega arith
+
   pub sweeping_all : (i : ℕ) (b : List ℕ) → Swept w f i b → 8 ≤ i → (point_block b ≡ with_object w (record { versions = w.point.object.versions; context = each f })) × Laid lay_point point_block b
   sweeping_all i b S l = (
     S.is ∙ ap (λ (k : Context). with_object w (record { versions = w.point.object.versions; context = k })) (ap (swept c₀ f) full ∙ swept_all c₀ f),

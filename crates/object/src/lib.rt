@@ -44,8 +44,8 @@ pub fn fill_in(b: &mut [u8], table: &[u8], rows: &[u8])
         × Laid lay_point point_block b.new }
 {
     let job = block::u8_at(b, 4);
-    for i in 0..8 {
-        let n = Controller(i + 1);
+    for who in 1..9 {
+        let n = Controller(who);
         let e = record::context_entry(b, n);
         let r = parts::row_at(rows, n);
         let filled = filled_entry(e, parts::holds(table, n, job), r.base);
@@ -58,8 +58,8 @@ pub fn strip_off(b: &mut [u8], rows: &[u8])
     requires { (length b.old ≡ 512) × Laid lay_point point_block b.old × (length rows.now ≡ 96) }
     ensures { (point_block b.new ≡ with_object (point_block b.old) (strip (decode_clock rows.now) (decode_point form_1 b.old).object)) × Laid lay_point point_block b.new }
 {
-    for i in 0..8 {
-        let n = Controller(i + 1);
+    for who in 1..9 {
+        let n = Controller(who);
         let e = record::context_entry(b, n);
         let r = parts::row_at(rows, n);
         record_edits::set_entry(b, n, stripped_entry(e, r.base));
@@ -121,8 +121,8 @@ fn strips_to_none(b: &[u8], rows: &[u8]) -> bool
     requires { (length b.now ≡ 512) × (length rows.now ≡ 96) }
     ensures { result ≡ is_empty (strip_context (decode_clock rows.now) (decode_point form_1 b.now).object.context) }
 {
-    (0..8).all(|i| {
-        let n = Controller(i + 1);
+    (1..9).all(|who| {
+        let n = Controller(who);
         record::context_entry(b, n).0 <= parts::row_at(rows, n).base
     })
 }

@@ -1,4 +1,5 @@
--- What a chain over the numbers below n answers, where its closure computes a test. Assumes nothing.
+-- What a chain over the numbers of a range answers, where its closure computes a test. An answer gives each law the clause `ran` of the call that runs
+-- the chain, `(cc)` for the range, and `λ x b q k. search (rules, tests)` for the closure. Assumes nothing.
 use Prim.Native.Nat.{ℕ, zero, suc, ◌+◌, ◌-◌, ◌<◌}
 use mathlib.Core.Path.{◌≡◌, refl, ap, ap₂, ◌∙◌}
 use mathlib.Core.Bool.{Bool, true, false, ◌&&◌, ◌||◌}
@@ -52,18 +53,18 @@ Computes {F} g p test = (x : ℕ) (b : Bool) (q : F) → Called g p (x, tt) b q 
 
 module _ {F : Type 0} {g : Mut F (ℕ × Unit {0}) Bool} {s u : Range ℕ} {p : F} {r : Bool} where
   -- over a..b, whose n numbers are tested as f says
-  pub all_from : (a b n : ℕ) (test f : ℕ → Bool) → Ran true false g s u p r → s ≡ record { start = a; end = b } → b - a ≡ n → Computes g p test
+  pub chain_all_from : (a b n : ℕ) (test f : ℕ → Bool) → Ran true false g s u p r → s ≡ record { start = a; end = b } → b - a ≡ n → Computes g p test
       → ((i : ℕ) → i < n → test (i + a) ≡ f i) → r ≡ every (upto n f)
-  all_from a b n test f ran e l tests same = all_from_yields_List test u p r ran (YieldsList-from_range a b n e l) tests ∙ counted test a n f same
+  chain_all_from a b n test f ran e l tests same = all_from_yields_List test u p r ran (YieldsList-from_range a b n e l) tests ∙ counted test a n f same
 
   -- over 0..n
-  pub all_below : (n : ℕ) (test : ℕ → Bool) → Ran true false g s u p r → s ≡ record { start = 0; end = n } → Computes g p test → r ≡ every (upto n test)
-  all_below n test ran e tests = all_from 0 n n test test ran e (omega arith) tests (λ i l. simp unary_clauses)
+  pub chain_all : (n : ℕ) (test : ℕ → Bool) → Ran true false g s u p r → s ≡ record { start = 0; end = n } → Computes g p test → r ≡ every (upto n test)
+  chain_all n test ran e tests = chain_all_from 0 n n test test ran e (omega arith) tests (λ i l. simp unary_clauses)
 
   -- over 0..n, tested as q says of what f gives
-  pub any_below : {A : Type 0} (n : ℕ) (test : ℕ → Bool) (q : A → Bool) (f : ℕ → A) → Ran false true g s u p r → s ≡ record { start = 0; end = n } → Computes g p test
+  pub chain_any : {A : Type 0} (n : ℕ) (test : ℕ → Bool) (q : A → Bool) (f : ℕ → A) → Ran false true g s u p r → s ≡ record { start = 0; end = n } → Computes g p test
       → ((i : ℕ) → i < n → test i ≡ q (f i)) → r ≡ some? q (upto n f)
-  any_below n test q f ran e tests same =
+  chain_any n test q f ran e tests same =
       any_from_yields_List test u p r ran (YieldsList-from_range 0 n n e (omega arith)) tests ∙ counted_some test 0 n q f (λ i l. simp unary_clauses (same i l))
 
 -- ---- how many of the numbers pass a test
@@ -79,9 +80,9 @@ counted_kept test a (suc n) q f h =
 
 module _ {F : Type 0} {g : Mut F (Bor ℕ × Unit {0}) Bool} {s : Filter (Range ℕ) F} {p : F} {r : ℕ} where
   -- over 0..n, tested as q says of what f gives
-  pub count_below : {A : Type 0} (n : ℕ) (test : ℕ → Bool) (q : A → Bool) (f : ℕ → A) → ((xs : List ℕ) × Drains (filter_steps nat_range_steps g) s xs × (r ≡ length xs))
+  pub chain_count : {A : Type 0} (n : ℕ) (test : ℕ → Bool) (q : A → Bool) (f : ℕ → A) → ((xs : List ℕ) × Drains (filter_steps nat_range_steps g) s xs × (r ≡ length xs))
       → filter_source s ≡ record { start = 0; end = n } → filter_callee s ≡ p → ((x : ℕ) (b : Bool) (q : F) → CalledAt g p x b q → (q ≡ p) × (b ≡ test x))
       → ((i : ℕ) → i < n → test i ≡ q (f i)) → r ≡ length (keep q (upto n f))
-  count_below n test q f ran e c tests same =
+  chain_count n test q f ran e c tests same =
       count_from_yields_List s r ran (YieldsList-from_filter g test (YieldsList-from_range 0 n n e (omega arith)) c tests)
       ∙ counted_kept test 0 n q f (λ i l. simp unary_clauses (same i l))

@@ -12,7 +12,7 @@ use Rattle.numbers.specs.declared.Controller.{Controller}
 use Rattle.numbers.specs.declared.Counter.{Counter}
 use Rattle.numbers.specs.declared.Dot.{Dot}
 use Rattle.numbers.specs.declared.Key.{Key}
-use Rattle.numbers.specs.Words.{every, all?, ascends?}
+use Rattle.numbers.specs.Words.{every, all?, some?, ascends?}
 use Rattle.numbers.specs.Numbers.{controller, last_counter, is_controller, is_counter, is_job, is_point, controllers, Crew}
 use Rattle.numbers.specs.Key.{is_key}
 use Rattle.numbers.proofs.Tests.{by_test, same_test, and_left, and_both, or_inr}
@@ -90,6 +90,10 @@ pub all_versions : (b : List ℕ) (p : Version → Bool) {count : ℕ} → field
 all_versions b p l r =
     ap (λ (n : ℕ). every (upto n (λ i. p (version_at b i)))) r
     ∙ sym (ap (all? p) (versions_are b l) ∙ all_upto p (field b 5 1) (version_at b))
+
+pub some_versions : (b : List ℕ) (p : Version → Bool) {count : ℕ} → field b 5 1 ≤ 8 → count ≡ field b 5 1
+    → some? p (upto count (version_at b)) ≡ some? p (decode_point form_1 b).object.versions
+some_versions b p l r = ap (λ (n : ℕ). some? p (upto n (version_at b))) r ∙ sym (ap (some? p) (versions_are b l))
 
 -- where each comes before the next, each comes before all that follow
 module _ {A : Type 0} (before : A → A → Bool) (O : Order before) where

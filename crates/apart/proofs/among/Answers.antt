@@ -6,7 +6,7 @@ use mathlib.Core.List.{List}
 use Rattle.std.proofs.lemmas.Iterator.{serves_from_Range}
 use Rattle.meaning.specs.Object.{has_dot}
 use Rattle.layout.specs.PointBlock.{form_1, decode_stored}
-use Rattle.record.proofs.Chains.{any_below}
+use Rattle.record.proofs.Chains.{chain_any}
 use Rattle.block.proofs.Runs.{block_part}
 use Rattle.apart.specs.Apart.{point_of}
 use Rattle.apart.proofs.Lent.{lent, lent_size, lent_few}
@@ -19,6 +19,6 @@ any-requires-clause-callable c =
 
 pub returns : goal.returns
 returns c =
-    any_below c.args.n (λ i. has_dot (decode_stored form_1 (lent c.args.points.now i)).object.versions c.args.d) (λ p. has_dot p.object.versions c.args.d)
+    chain_any c.args.n (λ i. has_dot (decode_stored form_1 (lent c.args.points.now i)).object.versions c.args.d) (λ p. has_dot p.object.versions c.args.d)
     (point_of c.args.points.now) c.any.ensures.ran (cc) (λ x b q k. search (rules, tests))
     (λ i l. ap (λ (b : List ℕ). has_dot (decode_stored form_1 b).object.versions c.args.d) (block_part c.args.points.now i))

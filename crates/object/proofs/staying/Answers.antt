@@ -10,7 +10,7 @@ use Rattle.std.proofs.lemmas.Iterator.{serves_from_Range}
 use Rattle.numbers.specs.Words.{keep}
 use Rattle.block.specs.Fields.{upto}
 use Rattle.meaning.specs.Object.{Version}
-use Rattle.record.proofs.Chains.{count_below}
+use Rattle.record.proofs.Chains.{chain_count}
 use Rattle.record.proofs.Reading.{version_at, versions_are}
 use Rattle.record.proofs.Questions.{crewed_at}
 use Rattle.object.proofs.Counting.{stays}
@@ -30,6 +30,6 @@ count-requires-clause-can c = (
 
 pub returns : goal.returns
 returns c =
-    count_below c.version_count.result (λ i. stays c.args.context.now (version_at c.args.b.now i)) (stays c.args.context.now) (version_at c.args.b.now)
+    chain_count c.version_count.result (λ i. stays c.args.context.now (version_at c.args.b.now i)) (stays c.args.context.now) (version_at c.args.b.now)
     c.count.ensures.ran (cc) c.filter.ensures.closure (λ x b q k. search (rules, tests)) (λ i l. refl)
     ∙ ap (λ (l : List Version). length (keep (stays c.args.context.now) l)) (ap (λ (k : ℕ). upto k (version_at c.args.b.now)) c.version_count.ensures ∙ sym (versions_are c.args.b.now (omega arith)))

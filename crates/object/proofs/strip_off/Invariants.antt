@@ -1,4 +1,5 @@
 -- `object::strip_off` meets its contract. The invariant: the entries of the first controllers are stripped (Sweeping). Assumes nothing.
+use Prim.Native.Nat.{◌-◌}
 use Rattle.layout.specs.PointBlock.{form_1, decode_point}
 use Rattle.layout.specs.Clocks.{decode_clock}
 use Rattle.record_edits.specs.Written.{point_block}
@@ -6,5 +7,5 @@ use Rattle.object.proofs.Entries.{stripping}
 use Rattle.object.proofs.Sweeping.{Swept}
 use Rattle.object.proofs.strip_off.Given as goal
 
-abbrev pub invariant-loop-i : goal.invariant-loop-i
-invariant-loop-i l = Swept (point_block l.initial.b) (stripping (decode_clock l.rows) (decode_point form_1 l.initial.b).object.context) l.i l.b
+abbrev pub invariant-loop-who : goal.invariant-loop-who
+invariant-loop-who l = Swept (point_block l.initial.b) (stripping (decode_clock l.rows) (decode_point form_1 l.initial.b).object.context) (l.who - 1) l.b

@@ -6,7 +6,7 @@ use mathlib.Core.Path.{◌∙◌}
 use Rattle.std.proofs.lemmas.Iterator.{serves_from_Range}
 use Rattle.meaning.specs.Clock.{in_clock}
 use Rattle.layout.specs.Clocks.{decode_clock}
-use Rattle.record.proofs.Chains.{all_below}
+use Rattle.record.proofs.Chains.{chain_all}
 use Rattle.record.proofs.Formed.{all_versions}
 use Rattle.record.proofs.Questions.{crewed_at}
 use Rattle.record.proofs.Reading.{version_at}
@@ -19,5 +19,5 @@ all-requires-clause-callable c =
 
 pub returns : goal.returns
 returns c =
-    all_below c.version_count.result (λ i. in_clock (decode_clock c.args.rows.now) (version_at c.args.b.now i).dot) c.all.ensures.ran (cc) (λ x b q k. search (rules, tests))
+    chain_all c.version_count.result (λ i. in_clock (decode_clock c.args.rows.now) (version_at c.args.b.now i).dot) c.all.ensures.ran (cc) (λ x b q k. search (rules, tests))
     ∙ all_versions c.args.b.now (λ v. in_clock (decode_clock c.args.rows.now) v.dot) (omega arith) c.version_count.ensures

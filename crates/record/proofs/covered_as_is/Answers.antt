@@ -6,7 +6,7 @@ use mathlib.Core.Path.{◌∙◌}
 use Rattle.std.proofs.lemmas.Iterator.{serves_from_Range}
 use Rattle.meaning.specs.Context.{covers}
 use Rattle.layout.specs.PointBlock.{form_1, decode_point}
-use Rattle.record.proofs.Chains.{all_below}
+use Rattle.record.proofs.Chains.{chain_all}
 use Rattle.record.proofs.Questions.{crewed_at, all_covered}
 use Rattle.record.proofs.Reading.{version_at}
 use Rattle.record.proofs.covered_as_is.Goals as goal
@@ -19,5 +19,5 @@ all-requires-clause-callable c =
 pub returns : goal.returns
 unfolding covers
 returns c =
-    all_below c.version_count.result (λ i. covers (decode_point form_1 c.args.b.now).object.context (version_at c.args.b.now i).dot) c.all.ensures.ran (cc) (λ x b q k. search (rules, tests))
+    chain_all c.version_count.result (λ i. covers (decode_point form_1 c.args.b.now).object.context (version_at c.args.b.now i).dot) c.all.ensures.ran (cc) (λ x b q k. search (rules, tests))
     ∙ all_covered c.args.b.now (decode_point form_1 c.args.b.now).object.context (omega arith) c.version_count.ensures

@@ -6,7 +6,7 @@ use Rattle.std.proofs.lemmas.Iterator.{serves_from_Range}
 use mathlib.Core.Path.{◌∙◌}
 use Rattle.meaning.specs.Context.{covers}
 use Rattle.layout.specs.PointBlock.{decode_point}
-use Rattle.record.proofs.Chains.{all_below}
+use Rattle.record.proofs.Chains.{chain_all}
 use Rattle.record.proofs.Questions.{crewed_at, filled, all_covered}
 use Rattle.record.proofs.Reading.{version_at}
 use Rattle.record.proofs.covered_filled.Goals as goal
@@ -19,5 +19,5 @@ all-requires-clause-callable c =
 pub returns : goal.returns
 unfolding decode_point
 returns c =
-    all_below c.version_count.result (λ i. covers (filled c.args.b.now c.args.table.now c.args.rows.now) (version_at c.args.b.now i).dot) c.all.ensures.ran (cc) (λ x b q k. search (rules, tests))
+    chain_all c.version_count.result (λ i. covers (filled c.args.b.now c.args.table.now c.args.rows.now) (version_at c.args.b.now i).dot) c.all.ensures.ran (cc) (λ x b q k. search (rules, tests))
     ∙ all_covered c.args.b.now (filled c.args.b.now c.args.table.now c.args.rows.now) (omega arith) c.version_count.ensures
