@@ -51,7 +51,14 @@ fn nearer(best: Option<(Dot, Key)>, d: Dot, k: Key) -> Option<(Dot, Key)>
 }
 
 // The same with a dot of the point k, where it lies behind the last one and arrives new.
-fn with_dot(image: &[u8], count: usize, k: Key, d: Dot, last: Dot, best: Option<(Dot, Key)>) -> Option<(Dot, Key)>
+fn with_dot(
+    image: &[u8],
+    count: usize,
+    k: Key,
+    d: Dot,
+    last: Dot,
+    best: Option<(Dot, Key)>,
+) -> Option<(Dot, Key)>
     requires { (length image.now ≡ image_length) × Canonical image.now × (count ≡ length (decode image.now).points) × (ascends? stored_before (decode image.now).points ≡ true) × Crew d.who }
     ensures { result ≡ with_new (decode image.now) k last best d }
 {
@@ -65,7 +72,13 @@ fn with_dot(image: &[u8], count: usize, k: Key, d: Dot, last: Dot, best: Option<
 }
 
 // The same with the versions of the point block b.
-fn next_in_point(image: &[u8], count: usize, b: &[u8], last: Dot, start: Option<(Dot, Key)>) -> Option<(Dot, Key)>
+fn next_in_point(
+    image: &[u8],
+    count: usize,
+    b: &[u8],
+    last: Dot,
+    start: Option<(Dot, Key)>,
+) -> Option<(Dot, Key)>
     requires { (length image.now ≡ image_length) × Canonical image.now × (count ≡ length (decode image.now).points) × (ascends? stored_before (decode image.now).points ≡ true)
         × (length b.now ≡ 512) × (field b.now 5 1 ≤ 8) × (crewed (decode_point form_1 b.now).object.versions ≡ true) }
     ensures { result ≡ nearest last start (new_of (decode image.now) (decode_stored form_1 b.now)) }

@@ -1,6 +1,6 @@
 -- What is in the lists that the definitions build. Assumes nothing.
 use Rattle.std.specs.Prelude.{if◌then◌else◌}
-use Prim.Native.Nat.{ℕ, zero, suc, ◌-◌}
+use Prim.Native.Nat.{ℕ, zero, suc}
 use mathlib.Core.Path.{◌≡◌, refl, sym, ap, ◌∙◌, subst}
 use mathlib.Core.Logic.{◌⊎◌, inl, inr, ⊎_elim, ⊎_map}
 use mathlib.Core.Bool.{Bool, true, false, false≢true}

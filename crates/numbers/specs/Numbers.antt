@@ -1,6 +1,6 @@
 -- Controller numbers, counters and point numbers, and their ranges. Assumes nothing.
 -- "Sizes: controllers 1..8; jobs 0..7; points 1..65535 within a job; .. counters 1..4,294,967,295."
-use Rattle.std.specs.Prelude.{ℕ, ◌≤◌, Bool, ◌&&◌, List, [], ◌∷◌, leb, ltb, eqb}
+use Rattle.std.specs.Prelude.{ℕ, ◌≤◌, Bool, ◌&&◌, List, [], ◌∷◌, leb, eqb}
 use Rattle.numbers.specs.declared.Controller.{Controller}
 use Rattle.numbers.specs.declared.Counter.{Counter}
 use Rattle.numbers.specs.declared.Point.{Point}

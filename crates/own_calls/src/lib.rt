@@ -63,7 +63,13 @@ pub fn write(
     writing::write_at(image, k, value, context, out)
 }
 
-pub fn delete(image: &mut [u8], job: u8, point: u16, context: &[u32], out: &mut [u8]) -> Result<(), Refusal>
+pub fn delete(
+    image: &mut [u8],
+    job: u8,
+    point: u16,
+    context: &[u32],
+    out: &mut [u8],
+) -> Result<(), Refusal>
     ensures { Deletes (λ v. v) image.old job point context.now out.old result image.new out.new }
 {
     let k = opening::named(job, point);

@@ -16,7 +16,6 @@ ghost use Rattle.image.specs.Places.{no_point};
 ghost use Rattle.image_edits.specs.Edits.{Canonical, with_points};
 ghost use Rattle.store.specs.Restored.{restored};
 
-
 // The i-th record is the point of the block b.
 pub fn write_record(image: &mut [u8], i: usize, b: &[u8])
     requires { (length image.old ≡ image_length) × Canonical image.old × (i < length (decode image.old).points) × (length b.now ≡ 512) × Laid lay_point point_block b.now }

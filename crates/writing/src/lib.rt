@@ -98,7 +98,13 @@ fn no_place(count: usize, valued: bool) -> bool
 }
 
 // The point has no record: 8 by an empty context; no version stays, so 12 never applies; 13 where a value needs a place.
-fn judge_new(image: &[u8], count: usize, k: Key, valued: bool, context: &[u32]) -> Result<(), Refusal>
+fn judge_new(
+    image: &[u8],
+    count: usize,
+    k: Key,
+    valued: bool,
+    context: &[u32],
+) -> Result<(), Refusal>
     requires { (length image.now ≡ image_length) × (good_image image.now ≡ true) × (count ≡ length (decode image.now).points) × (length context.now ≡ 8) × (has_record k (decode image.now).points ≡ false) }
     ensures { result ≡ verdict_of (judged (decode image.now) k valued (map counter context.now) true) }
 {
@@ -209,7 +215,13 @@ fn put_deletion(image: &mut [u8], k: Key, context: &[u32], out: &mut [u8])
 // ---- the steps, on a good image and a point that is ours
 
 // Write: 7, then what a write and a delete have in common.
-pub fn write_at(image: &mut [u8], k: Key, said: &[u8], context: &[u32], out: &mut [u8]) -> Result<(), Refusal>
+pub fn write_at(
+    image: &mut [u8],
+    k: Key,
+    said: &[u8],
+    context: &[u32],
+    out: &mut [u8],
+) -> Result<(), Refusal>
     requires { (length image.old ≡ image_length) × (good_image image.old ≡ true) × (ours (decode image.old) k ≡ true) × (length context.now ≡ 8) × (length out.old ≡ 512) }
     ensures { (result ≡ (afterwards image.old out.old (left_by (write (decode image.old) k said.now (map counter context.now)))).verdict)
         × (image.new ≡ (afterwards image.old out.old (left_by (write (decode image.old) k said.now (map counter context.now)))).image)
