@@ -13,6 +13,7 @@ pub mod Resealed
 pub mod Places
 pub mod Scans
 pub mod Passing
+pub mod Asked
 pub mod ByIndex
 pub mod Search
 pub mod Placed
