@@ -66,12 +66,6 @@ module _ {w : Written} {f : Version → Bool} {m : List ℕ} {i : ℕ} {b : List
   abbrev put : List Version → List Version
   put l = place_all version_before (keep f l) ws
 
-  pub arriving_all : i ≤ 0 → (point_block b ≡ with_versions w (place_all version_before (keep f (decode_point form_1 m).object.versions) w.point.object.versions)) × Laid lay_point point_block b
-  arriving_all l = (A.is ∙ ap (λ (k : ℕ). with_versions w (put (drop k vs))) nought, A.laid)
-    where
-      nought : i ≡ 0
-      nought = omega arith
-
   module _ (more : 0 < i) where
     here : i ≡ suc (i - 1)
     here = omega arith

@@ -2,16 +2,15 @@
 -- Assumes nothing.
 use Prim.Native.Nat.{ℕ, ◌+◌, ◌*◌, max, ◌≤◌, ◌<◌}
 use mathlib.Core.Path.{◌≡◌, refl, ap, ap₂, sym, ◌∙◌}
-use mathlib.Core.Bool.{Bool, true, false, ◌&&◌, ◌||◌, not}
+use mathlib.Core.Bool.{Bool, true, false, ◌&&◌, ◌||◌}
 use mathlib.Core.List.{List, [], ◌∷◌}
 use native.Mathlib.Omega.{arith}
 use lib.ListN.{get_or}
 use Rattle.numbers.specs.declared.Counter.{Counter}
-use Rattle.numbers.specs.Words.{every, cons_if, keep, some?, map}
+use Rattle.numbers.specs.Words.{cons_if, keep, some?, map}
 use Rattle.numbers.specs.Numbers.{controller, counter}
 use Rattle.numbers.proofs.Tests.{and_one}
 use Rattle.block.specs.Fields.{field, upto}
-use Rattle.block.proofs.Passing.{Passing, one_more, one_fails, all_passed, some_upto}
 use Rattle.meaning.specs.Context.{entry, higher}
 use Rattle.meaning.specs.Object.{has_value, Version}
 use Rattle.laws.proofs.ContextLaws.{entry_each}
@@ -37,34 +36,12 @@ some_kept g f (x ∷ xs) = first (f x) ∙ ap (λ (t : Bool). (g x && f x) || t)
     first true = ap (λ (t : Bool). t || some? g (keep f xs)) (sym (and_one (g x)))
     first false = ap (λ (t : Bool). t || some? g (keep f xs)) (sym (none (g x)))
 
-not_twice : (a : Bool) → not (not a) ≡ a
-not_twice true = refl
-not_twice false = refl
-
--- version i of a block is not one that passes and has a value
-abbrev pub worthless : (Version → Bool) → List ℕ → ℕ → Bool
-worthless f b i = not (valued f (version_at b i))
-
-module _ (f : Version → Bool) (b : List ℕ) (few : field b 5 1 ≤ 8) where
-  by_tests : not (some? (λ v. has_value v.contents) (keep f (decode_point form_1 b).object.versions)) ≡ every (upto (field b 5 1) (worthless f b))
-  by_tests =
-      ap not
-      (some_kept (λ v. has_value v.contents) f (decode_point form_1 b).object.versions
-      ∙ ap (some? (valued f)) (versions_are b few)
-      ∙ some_upto (valued f) (field b 5 1) (version_at b))
-      ∙ not_twice (every (upto (field b 5 1) (worthless f b)))
-
-  module _ {i : ℕ} (P : Passing (field b 5 1) (worthless f b) i) where
-    -- r is what was answered of the i-th
-    module _ (l : i < field b 5 1) {r : Bool} (q : r ≡ valued f (version_at b i)) where
-      pub value_found : r ≡ true → false ≡ not (some? (λ v. has_value v.contents) (keep f (decode_point form_1 b).object.versions))
-      value_found t = one_fails P l (ap not (sym q ∙ t)) ∙ sym by_tests
-
-      pub value_not_yet : r ≡ false → Passing (field b 5 1) (worthless f b) (i + 1)
-      value_not_yet t = one_more P l (ap not (sym q ∙ t))
-
-    pub value_nowhere : field b 5 1 ≤ i → true ≡ not (some? (λ v. has_value v.contents) (keep f (decode_point form_1 b).object.versions))
-    value_nowhere l = all_passed P l ∙ sym by_tests
+-- whether any of the versions that pass has a value, asked of them one by one
+pub any_valued : (f : Version → Bool) (b : List ℕ) {count : ℕ} → field b 5 1 ≤ 8 → count ≡ field b 5 1
+    → some? (valued f) (upto count (version_at b)) ≡ some? (λ v. has_value v.contents) (keep f (decode_point form_1 b).object.versions)
+any_valued f b few r =
+    ap (λ (n : ℕ). some? (valued f) (upto n (version_at b))) r
+    ∙ sym (some_kept (λ v. has_value v.contents) f (decode_point form_1 b).object.versions ∙ ap (some? (valued f)) (versions_are b few))
 
 -- n is the length of version i as it was read, and f the other question
 module _ (f : Version → Bool) (b : List ℕ) (i n : ℕ) (e : n ≡ field b (41 + 32 * i) 1) where

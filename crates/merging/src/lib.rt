@@ -24,15 +24,13 @@ pub fn filled_context(stored: &[u8], job: u8, table: &[u8], rows: &[u8], out: &m
     requires { (length stored.now ≡ 32) × (length table.now ≡ 8) × (length rows.now ≡ 96) × (length out.old ≡ 8) }
     ensures { (map counter out.new ≡ fill_context table.now job (decode_clock rows.now) (decode_context stored.now)) × (length out.new ≡ 8) }
 {
-    let mut i: u8 = 0;
-    while i < 8 {
+    for i in 0..8 {
         let n = Controller(i + 1);
         let at = i as usize;
         let e = Counter(block::u32_at(stored, 4 * at));
         let r = parts::row_at(rows, n);
         let filled = object::filled_entry(e, parts::holds(table, n, job), r.base);
         out[at] = filled.0;
-        i += 1;
     }
 }
 
@@ -54,15 +52,9 @@ pub fn surviving(b: &[u8], m: &[u8], there: &[u32]) -> usize
     ensures { result ≡ length (survivors (decode_point form_1 b.now).object (theirs m.now there.now)) }
 {
     let count = record::version_count(b) as usize;
-    let mut stay: usize = 0;
-    let mut i: usize = 0;
-    while i < count {
-        if survives(record::version_dot(b, i), m, there) {
-            stay += 1;
-        }
-        i += 1;
-    }
-    stay
+    (0..count)
+        .filter(|i| survives(record::version_dot(b, *i), m, there))
+        .count()
 }
 
 // The local versions that the message's context covers and the message lacks go. The last is looked at first, so that those still to come
@@ -72,9 +64,8 @@ pub fn drop_missed(b: &mut [u8], m: &[u8], there: &[u32])
         × (length m.now ≡ 512) × (field m.now 5 1 ≤ 8) × (length there.now ≡ 8) }
     ensures { (point_block b.new ≡ with_versions (point_block b.old) (survivors (decode_point form_1 b.old).object (theirs m.now there.now))) × Laid lay_point point_block b.new }
 {
-    let mut i = record::version_count(b) as usize;
-    while 0 < i {
-        i -= 1;
+    let count = record::version_count(b) as usize;
+    for i in (0..count).rev() {
         if !survives(record::version_dot(b, i), m, there) {
             record_edits::remove_version(b, i);
         }
@@ -96,14 +87,11 @@ pub fn raise_to(b: &mut [u8], there: &[u32])
     requires { (length b.old ≡ 512) × Laid lay_point point_block b.old × (length there.now ≡ 8) }
     ensures { (point_block b.new ≡ with_context (point_block b.old) (higher (decode_point form_1 b.old).object.context (map counter there.now))) × Laid lay_point point_block b.new }
 {
-    let mut i: u8 = 0;
-    while i < 8 {
+    for i in 0..8 {
         let n = Controller(i + 1);
-        let at = i as usize;
         let e = record::context_entry(b, n);
-        let other = there[at];
+        let other = there[i as usize];
         record_edits::set_entry(b, n, higher_entry(e, other));
-        i += 1;
     }
 }
 
@@ -115,9 +103,8 @@ pub fn put_arriving(b: &mut [u8], m: &[u8], here: &[u32])
     ensures { (point_block b.new ≡ with_versions (point_block b.old) (place_all version_before (arriving (map counter here.now) (decode_point form_1 m.now).object.versions) (decode_point form_1 b.old).object.versions))
         × Laid lay_point point_block b.new }
 {
-    let mut i = record::version_count(m) as usize;
-    while 0 < i {
-        i -= 1;
+    let count = record::version_count(m) as usize;
+    for i in (0..count).rev() {
         if !object::given_covers(here, record::version_dot(m, i)) {
             let at = 40 + 32 * i;
             object::put_version(b, &m[at..at + 32]);
@@ -148,18 +135,11 @@ pub fn settled_by(here: &[u32], there: &[u32], rows: &[u8]) -> bool
     requires { (length here.now ≡ 8) × (length there.now ≡ 8) × (length rows.now ≡ 96) }
     ensures { result ≡ is_empty (strip_context (decode_clock rows.now) (higher (map counter here.now) (map counter there.now))) }
 {
-    let mut i: u8 = 0;
-    while i < 8 {
-        let n = Controller(i + 1);
+    (0..8).all(|i| {
         let at = i as usize;
         let e = higher_entry(Counter(here[at]), there[at]);
-        let r = parts::row_at(rows, n);
-        if r.base < e.0 {
-            return false;
-        }
-        i += 1;
-    }
-    true
+        e.0 <= parts::row_at(rows, Controller(i + 1)).base
+    })
 }
 
 // Version i of the local ones has a value and stays.
@@ -180,14 +160,7 @@ pub fn survivors_deleted(b: &[u8], m: &[u8], there: &[u32]) -> bool
     ensures { result ≡ not (some? (λ v. has_value v.contents) (survivors (decode_point form_1 b.now).object (theirs m.now there.now))) }
 {
     let count = record::version_count(b) as usize;
-    let mut i: usize = 0;
-    while i < count {
-        if value_stays(b, i, m, there) {
-            return false;
-        }
-        i += 1;
-    }
-    true
+    !(0..count).any(|i| value_stays(b, i, m, there))
 }
 
 // Version i of the message has a value and arrives.
@@ -207,14 +180,7 @@ pub fn arrivals_deleted(m: &[u8], here: &[u32]) -> bool
     ensures { result ≡ not (some? (λ v. has_value v.contents) (arriving (map counter here.now) (decode_point form_1 m.now).object.versions)) }
 {
     let count = record::version_count(m) as usize;
-    let mut i: usize = 0;
-    while i < count {
-        if value_arrives(m, i, here) {
-            return false;
-        }
-        i += 1;
-    }
-    true
+    !(0..count).any(|i| value_arrives(m, i, here))
 }
 
 // The record that a merge would leave would go, stripped by these rows.

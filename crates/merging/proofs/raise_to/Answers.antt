@@ -1,5 +1,4 @@
 -- `merging::raise_to` meets its contract. The invariant: the entries of the first controllers are raised (object's Sweeping). Assumes nothing.
-use Prim.Native.Nat.{◌-◌}
 use mathlib.Core.Path.{refl, ◌∙◌}
 use Rattle.numbers.specs.Words.{map}
 use Rattle.numbers.specs.Numbers.{counter}
@@ -19,26 +18,16 @@ loop-i-init c = let a = c.args in
     let b = a.b.now in
     sweeping_none (point_block b) (higher_at (decode_point form_1 b).object.context (map counter a.there.now)) b p.0 (point_decoded b (bytes_of b c.type_inv.b) p.0).context.eight refl p.1
 
-pub context_entry-e-requires : goal.context_entry-e-requires
-context_entry-e-requires c = (c.loop-i.invariant.size, (omega arith, omega arith))
-
-pub set_entry-requires : goal.set_entry-requires
-set_entry-requires c = let l = c.loop-i in
-    (l.invariant.size, (omega arith, omega arith), l.invariant.laid)
-
 pub loop-i-preserved : goal.loop-i-preserved
 loop-i-preserved c = let a = c.args in
     let l = c.loop-i in
     let b = a.b.now in
     let there = a.there.now in
-    sweeping_more (point_block b) (higher_at (decode_point form_1 b).object.context (map counter there)) l.i l.b l.invariant c.loop-i-test.true _ c.higher_entry.result (omega (arith, l.invariant.size))
-    (c.higher_entry.ensures ∙ read_higher (decode_point form_1 b).object.context there l.i (c.context_entry-e.ensures ∙ sweeping_entry (point_block b) (higher_at (decode_point form_1 b).object.context (map counter there)) l.i l.b l.invariant c.loop-i-test.true)) c.set_entry.ensures
-
-pub shape_of-b : goal.shape_of-b
-shape_of-b c = omega (arith, c.loop-i.invariant.size)
+    sweeping_more (point_block b) (higher_at (decode_point form_1 b).object.context (map counter there)) l.i l.b l.invariant (omega arith) _ c.higher_entry.result (omega (arith, l.invariant.size))
+    (c.higher_entry.ensures ∙ read_higher (decode_point form_1 b).object.context there l.i (c.context_entry-e.ensures ∙ sweeping_entry (point_block b) (higher_at (decode_point form_1 b).object.context (map counter there)) l.i l.b l.invariant (omega arith))) c.set_entry.ensures
 
 pub returns : goal.returns
 returns c = let a = c.args in
     let l = c.loop-i in
     let b = a.b.now in
-    unfold higher in (sweeping_all (point_block b) (higher_at (decode_point form_1 b).object.context (map counter a.there.now)) l.i l.b l.invariant c.loop-i-test.false)
+    unfold higher in (sweeping_all (point_block b) (higher_at (decode_point form_1 b).object.context (map counter a.there.now)) l.i l.b l.invariant (omega arith))

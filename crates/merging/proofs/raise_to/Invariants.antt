@@ -1,5 +1,4 @@
 -- `merging::raise_to` meets its contract. The invariant: the entries of the first controllers are raised (object's Sweeping). Assumes nothing.
-use Prim.Native.Nat.{◌-◌}
 use Rattle.numbers.specs.Words.{map}
 use Rattle.numbers.specs.Numbers.{counter}
 use Rattle.layout.specs.PointBlock.{form_1, decode_point}
@@ -10,6 +9,3 @@ use Rattle.merging.proofs.raise_to.Given as goal
 
 abbrev pub invariant-loop-i : goal.invariant-loop-i
 invariant-loop-i l = Swept (point_block l.initial.b) (higher_at (decode_point form_1 l.initial.b).object.context (map counter l.there)) l.i l.b
-
-abbrev pub decreases-loop-i : goal.decreases-loop-i
-decreases-loop-i l = 8 - l.i

@@ -1,31 +1,24 @@
--- `merging::survivors_deleted` meets its contract. The invariant is `Passing`: none of the versions before i stays with a value (Judging). Assumes nothing.
-use Prim.Native.Nat.{◌-◌}
-use Rattle.block.specs.Fields.{field}
-use Rattle.block.proofs.Passing.{none_passed}
+-- `merging::survivors_deleted` meets its contract: each version is asked whether it stays with a value (Judging). Assumes nothing.
+use Rattle.std.proofs.Common.{rules}
+use Rattle.std.proofs.lemmas.Iterator.{serves_from_Range}
+use mathlib.Core.Bool.{not}
+use mathlib.Core.Path.{refl, ap, ◌∙◌}
 use Rattle.meaning.specs.Object.{survivors}
+use Rattle.record.proofs.Reading.{version_at}
 use Rattle.record.proofs.Questions.{crewed_at}
+use Rattle.block.proofs.Asked.{any_asked}
 use Rattle.merging.proofs.Carrying.{lasts}
-use Rattle.merging.proofs.Judging.{worthless, value_found, value_not_yet, value_nowhere}
+use Rattle.merging.proofs.Judging.{valued, any_valued}
 use native.Mathlib.Omega.{arith}
 use Rattle.merging.proofs.survivors_deleted.Goals as goal
 
-pub loop-i-init : goal.loop-i-init
-loop-i-init c = let a = c.args in
-    let b = a.b.now in
-    none_passed (field b 5 1) (worthless (lasts a.m.now a.there.now) b)
-
-pub value_stays-requires : goal.value_stays-requires
-value_stays-requires c = let p = c.requires in
-    (p.0, (omega (arith, c.version_count-count.ensures)), crewed_at c.args.b.now (omega arith) c.version_count-count.ensures p.2 c.loop-i.i (omega arith), p.3, p.4, p.5)
-
-pub returns-then-value_stays : goal.returns-then-value_stays
-returns-then-value_stays c = let a = c.args in
-    unfold survivors in (value_found (lasts a.m.now a.there.now) a.b.now (omega arith) c.loop-i.invariant (omega (arith, c.version_count-count.ensures)) c.value_stays.ensures c.if-value_stays.true)
-
-pub loop-i-preserved : goal.loop-i-preserved
-loop-i-preserved c = let a = c.args in
-    value_not_yet (lasts a.m.now a.there.now) a.b.now (omega arith) c.loop-i.invariant (omega (arith, c.version_count-count.ensures)) c.value_stays.ensures c.if-value_stays.false
+pub any-requires-clause-callable : goal.any-requires-clause-callable
+any-requires-clause-callable c = let p = c.requires in
+    let e = c.version_count-count.ensures in
+    serves_from_Range (λ x q r. search rules) (λ k l h. let w = crewed_at c.args.b.now (omega arith) e p.2 k (omega arith) in search (rules, w, e, p))
 
 pub returns : goal.returns
 returns c = let a = c.args in
-    unfold survivors in (value_nowhere (lasts a.m.now a.there.now) a.b.now (omega arith) c.loop-i.invariant (omega (arith, c.version_count-count.ensures)))
+    let b = a.b.now in
+    let f = lasts a.m.now a.there.now in
+    unfold survivors in (ap not (any_asked c.any.result c.version_count-count.result refl (λ x r q k. search rules) (valued f) (version_at b) c.any.ensures.runs (λ x l r k. search rules) ∙ any_valued f b (omega arith) c.version_count-count.ensures))
