@@ -8,7 +8,10 @@ use native.Mathlib.Omega.{arith}
 use native.Mathlib.Nat.{le_of_suc-le-suc, add-zero}
 use lib.ListN.{length}
 use lib.Dec.{eqb, ltb}
-use borrow.Author.Tests.{eq-eqb, ne_eqb, lt-ltb, ltb-true, ltb-false}
+use borrow.Author.Tests.{eq-eqb, ne_eqb, lt-ltb}
+use Rattle.std.specs.declared.option.Option.{Option}
+use Rattle.std.specs.declared.option.Option.TheVariants.{None, Some}
+use Rattle.std.specs.Option.{MatchOption, unwrap_or}
 use Rattle.numbers.specs.Words.{all?, map}
 use Rattle.numbers.proofs.Tests.{by_test, and_both}
 use Rattle.numbers.proofs.Lists.{in_all}
@@ -53,23 +56,13 @@ pub kind_at : (img : List ℕ) (k : ℕ) → field (block_at img k) 0 1 ≡ fiel
 unfolding block_at
 kind_at img k = field_of_cut img (512 * k) 512 0 1 (omega arith) ∙ ap (λ (o : ℕ). field img o 1) (add-zero (512 * k))
 
--- the blocks before the n-th have a kind
-abbrev pub Kinds : List ℕ → ℕ → Type 0
-Kinds img n = (i : ℕ) → i < n → field (block_at img (3 + i)) 0 1 ≡ 0 → ⊥
-
-pub no_kinds : (img : List ℕ) → Kinds img 0
-no_kinds img i l e = omega arith
-
-pub more_kinds : (img : List ℕ) (n x : ℕ) → Kinds img n → x ≡ field img (512 * (3 + n)) 1 → (x ≡ 0 → ⊥) → Kinds img (n + 1)
-more_kinds img n x h e kind i l z =
-    by_test (ltb i n) (λ t. h i (ltb-true i n t) z)
-    (λ t. kind (e ∙ sym (kind_at img (3 + n)) ∙ subst (λ (k : ℕ). field (block_at img (3 + k)) 0 1 ≡ 0) (omega (arith, ltb-false i n t, l)) z))
-
-pub ends_here : (img : List ℕ) (n x : ℕ) → n ≤ most_points → Kinds img n → x ≡ field img (512 * (3 + n)) 1 → x ≡ 0 → n ≡ stored_count img
-ends_here img n x l h e z = sym (count_is img n l h (inr (kind_at img (3 + n) ∙ sym e ∙ z)))
-
-pub all_stored : (img : List ℕ) (n : ℕ) → n ≡ most_points → Kinds img n → n ≡ stored_count img
-all_stored img n e h = sym (count_is img n (omega arith) h (inl e))
+-- r is where the first block of kind 0 was found
+pub counted : (img : List ℕ) (r : Option ℕ)
+    → MatchOption r ((k : ℕ) → 0 ≤ k → k < most_points → field img (512 * (3 + k)) 1 ≡ 0 → ⊥)
+    (λ n. (0 ≤ n) × (n < most_points) × (field img (512 * (3 + n)) 1 ≡ 0) × ((k : ℕ) → 0 ≤ k → k < n → field img (512 * (3 + k)) 1 ≡ 0 → ⊥))
+    → unwrap_or r most_points ≡ stored_count img
+counted img None h = sym (count_is img most_points (omega arith) (λ i l z. h i (omega arith) l (sym (kind_at img (3 + i)) ∙ z)) (inl refl))
+counted img (Some n) h = sym (count_is img n (omega (arith, h.1)) (λ i l z. h.3 i (omega arith) l (sym (kind_at img (3 + i)) ∙ z)) (inr (kind_at img (3 + n) ∙ h.2)))
 
 -- the other way round: those before the count have a kind
 until_prefix : (m : ℕ) (f : ℕ → List ℕ) → until_zero (upto m f) ≡ upto (length (until_zero (upto m f))) f

@@ -1,10 +1,11 @@
--- What the loops over stored points have shown. Assumes nothing.
-use Prim.Native.Nat.{ℕ, ◌+◌, ◌*◌, ◌-◌, ◌≤◌, ◌<◌}
+-- What is asked of the stored points one by one. Assumes nothing.
+use Prim.Native.Nat.{ℕ, zero, suc, ◌+◌, ◌*◌, ◌-◌, ◌≤◌, ◌<◌}
 use mathlib.Core.Path.{◌≡◌, ap, ap₂, sym, ◌∙◌, subst}
 use mathlib.Core.Bool.{Bool, true, false}
 use mathlib.Core.List.{List}
 use native.Mathlib.Omega.{arith}
 use lib.ListN.{length, take, drop}
+use Rattle.std.specs.Bool.{MatchBool}
 use Rattle.numbers.specs.declared.Controller.{Controller}
 use Rattle.numbers.specs.declared.Key.{Key}
 use Rattle.numbers.specs.Words.{every, ascends?, same_list}
@@ -13,7 +14,7 @@ use Rattle.block.specs.Fields.{field, upto}
 use Rattle.block.specs.Block.{block_at}
 use Rattle.block.proofs.Arrays.{upto_same}
 use Rattle.block.proofs.Runs.{block_of_drop, lent_rest}
-use Rattle.block.proofs.ByIndex.{Pairs, ascends_upto, pairs_more, pairs_fail}
+use Rattle.block.proofs.ByIndex.{Pairs, ascends_upto, pairs_one, pairs_more, pairs_fail}
 use Rattle.meaning.specs.State.{stored_before}
 use Rattle.laws.proofs.Putting.{stored_order}
 use Rattle.layout.specs.Clocks.{decode_clock}
@@ -69,19 +70,31 @@ neighbours img i x y r l p q e =
     e ∙ ap (λ (k : Key). key_before k y) (p ∙ ap (λ (b : List ℕ). (decode_point form_1 b).key) (block_before img i l))
     ∙ ap (key_before (point_at img (i - 1)).key) (q ∙ ap (λ (b : List ℕ). (decode_point form_1 b).key) (block_part img (3 + i)))
 
-pub goes_up : (img : List ℕ) (i : ℕ) → 1 ≤ i → UpTo img i → stored_before (point_at img (i - 1)) (point_at img i) ≡ true → UpTo img (i + 1)
+goes_up : (img : List ℕ) (i : ℕ) → 1 ≤ i → UpTo img i → stored_before (point_at img (i - 1)) (point_at img i) ≡ true → UpTo img (i + 1)
 goes_up img i l h t =
     let n : i ≡ i - 1 + 1 = omega arith in
     subst (λ (k : ℕ). UpTo img (k + 1)) (sym n)
     (pairs_more stored_before stored_order (point_at img) (i - 1) (subst (λ (k : ℕ). UpTo img k) n h) (subst (λ (k : ℕ). stored_before (point_at img (i - 1)) (point_at img k) ≡ true) n t))
 
-pub goes_down : (img : List ℕ) (count i : ℕ) → 1 ≤ i → i < count → stored_before (point_at img (i - 1)) (point_at img i) ≡ false → false ≡ ascends? stored_before (upto count (point_at img))
+goes_down : (img : List ℕ) (count i : ℕ) → 1 ≤ i → i < count → stored_before (point_at img (i - 1)) (point_at img i) ≡ false → false ≡ ascends? stored_before (upto count (point_at img))
 goes_down img count i l k t =
     let n : i ≡ i - 1 + 1 = omega arith in
     sym (pairs_fail stored_before (point_at img) count (i - 1) (omega arith) (subst (λ (x : ℕ). stored_before (point_at img (i - 1)) (point_at img x) ≡ false) n t))
 
-pub all_up : (img : List ℕ) (count i : ℕ) → count ≤ i → UpTo img i → true ≡ ascends? stored_before (upto count (point_at img))
-all_up img count i l h = sym (ascends_upto stored_before count (point_at img) (λ a b p q. h a b p (omega arith)))
+-- each point but the first comes after the one before it
+rises : (img : List ℕ) (n : ℕ) → ((k : ℕ) → 1 ≤ k → k < n → stored_before (point_at img (k - 1)) (point_at img k) ≡ true) → UpTo img n
+rises img zero h = λ i j l k. absurd (omega arith)
+rises img (suc zero) h = pairs_one stored_before (point_at img)
+rises img (suc (suc n)) h =
+    let next : suc n + 1 ≡ suc (suc n) = omega arith in
+    subst (UpTo img) next (goes_up img (suc n) (omega arith) (rises img (suc n) (λ k l m. h k l (omega arith))) (h (suc n) (omega arith) (omega arith)))
+
+-- r is what was answered of all of them
+pub all_ascend : (img : List ℕ) (count : ℕ) (r : Bool)
+    → MatchBool r ((k : ℕ) → 1 ≤ k → k < count → stored_before (point_at img (k - 1)) (point_at img k) ≡ true) ((k : ℕ) × (1 ≤ k) × (k < count) × (stored_before (point_at img (k - 1)) (point_at img k) ≡ false))
+    → r ≡ ascends? stored_before (upto count (point_at img))
+all_ascend img count true h = sym (ascends_upto stored_before count (point_at img) (rises img count h))
+all_ascend img count false h = goes_down img count h.0 h.1 h.2 h.3
 
 -- ---- each record with those before it
 

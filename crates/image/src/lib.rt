@@ -22,14 +22,9 @@ pub fn stored_count(image: &[u8]) -> usize
     requires { length image.now ≡ image_length }
     ensures { result ≡ stored_count image.now }
 {
-    let mut n: usize = 0;
-    while n < 64 {
-        if block::u8_at(image, 512 * (3 + n)) == 0 {
-            return n;
-        }
-        n += 1;
-    }
-    n
+    (0..64)
+        .find(|n| block::u8_at(image, 512 * (3 + *n)) == 0)
+        .unwrap_or(64)
 }
 
 // Each of the stored points stands in its block as it should.
@@ -37,15 +32,10 @@ pub fn points_laid_out(image: &[u8], count: usize) -> bool
     requires { (length image.now ≡ image_length) × (count ≤ 64) }
     ensures { result ≡ every (upto count (λ i. stored_laid_out image.now (3 + i))) }
 {
-    let mut i: usize = 0;
-    while i < count {
+    (0..count).all(|i| {
         let at = 512 * (3 + i);
-        if !record::stored_laid_out(&image[at..at + 512], (3 + i) as u16) {
-            return false;
-        }
-        i += 1;
-    }
-    true
+        record::stored_laid_out(&image[at..at + 512], (3 + i) as u16)
+    })
 }
 
 // "points ascending by job and point": each comes before the next.
@@ -53,17 +43,11 @@ pub fn points_ascend(image: &[u8], count: usize) -> bool
     requires { (length image.now ≡ image_length) × (count ≤ 64) }
     ensures { result ≡ ascends? stored_before (upto count (point_at image.now)) }
 {
-    let mut i: usize = 1;
-    while i < count {
+    (1..count).all(|i| {
         let at = 512 * (3 + i);
-        let here = record::key_of(&image[at..at + 512]);
         let last = record::key_of(&image[at - 512..at]);
-        if !last.before(here) {
-            return false;
-        }
-        i += 1;
-    }
-    true
+        last.before(record::key_of(&image[at..at + 512]))
+    })
 }
 
 // Where the point is stored, by halves, or the place before which it would stand.
@@ -96,15 +80,10 @@ pub fn records_good(image: &[u8], count: usize, own: Controller, table: &[u8], r
     requires { (length image.now ≡ image_length) × (count ≤ 64) × Few image.now count × (length table.now ≡ 8) × (length rows.now ≡ 96) × Crew own }
     ensures { result ≡ every (upto count (λ i. record_good own table.now (decode_clock rows.now) (point_at image.now i))) }
 {
-    let mut i: usize = 0;
-    while i < count {
+    (0..count).all(|i| {
         let at = 512 * (3 + i);
-        if !record::record_good(&image[at..at + 512], own, table, rows) {
-            return false;
-        }
-        i += 1;
-    }
-    true
+        record::record_good(&image[at..at + 512], own, table, rows)
+    })
 }
 
 // No two stored points share a dot.
@@ -158,14 +137,7 @@ pub fn versions_listed_for(list: &[u8], b: &[u8]) -> bool
 {
     let k = record::key_of(b);
     let count = record::version_count(b) as usize;
-    let mut i: usize = 0;
-    while i < count {
-        if !dot_listed_for(list, record::version_dot(b, i), k) {
-            return false;
-        }
-        i += 1;
-    }
-    true
+    (0..count).all(|i| dot_listed_for(list, record::version_dot(b, i), k))
 }
 
 // The list agrees with every stored point.
@@ -174,15 +146,10 @@ pub fn list_agrees(list: &[u8], image: &[u8], count: usize) -> bool
         × (length image.now ≡ image_length) × (count ≤ 64) × Few image.now count }
     ensures { result ≡ every (upto count (λ i. listed_for (decode_dots list.now) (point_at image.now i))) }
 {
-    let mut i: usize = 0;
-    while i < count {
+    (0..count).all(|i| {
         let at = 512 * (3 + i);
-        if !versions_listed_for(list, &image[at..at + 512]) {
-            return false;
-        }
-        i += 1;
-    }
-    true
+        versions_listed_for(list, &image[at..at + 512])
+    })
 }
 
 // "No dot stands in two records or is listed for another point than the record that holds it."
