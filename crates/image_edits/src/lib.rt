@@ -41,12 +41,10 @@ pub fn open_place(image: &mut [u8], count: usize, i: usize, k: Key)
     ensures { (decode image.new ≡ with_points (decode image.old) (insert_at (decode image.old).points i (record { key = k; object = no_object })))
         × Canonical image.new }
 {
-    let mut to = count;
-    while i < to {
+    for to in (i + 1..count + 1).rev() {
         let at = 512 * (3 + to);
         block::move_up(image, at - 512, at, 64);
         record_edits::renumber(&mut image[at..at + 512], (3 + to) as u16);
-        to -= 1;
     }
     let free = 512 * (3 + i);
     record_edits::write_empty(
@@ -63,12 +61,10 @@ pub fn close_place(image: &mut [u8], count: usize, i: usize)
     requires { (length image.old ≡ image_length) × Canonical image.old × (count ≡ length (decode image.old).points) × (i < count) }
     ensures { (decode image.new ≡ with_points (decode image.old) (remove_at (decode image.old).points i)) × Canonical image.new }
 {
-    let mut j = i;
-    while j + 1 < count {
+    for j in i..count - 1 {
         let at = 512 * (3 + j);
         block::move_down(image, at + 512, at, 64);
         record_edits::renumber(&mut image[at..at + 512], (3 + j) as u16);
-        j += 1;
     }
     block::clear(image, 512 * (2 + count), 512 * (3 + count));
 }

@@ -5,7 +5,4 @@ use Rattle.image_edits.proofs.Opening.{Opening}
 use Rattle.image_edits.proofs.open_place.Given as goal
 
 abbrev pub invariant-loop-to : goal.invariant-loop-to
-invariant-loop-to l = Opening (decode l.initial.image) l.i l.to l.image
-
-abbrev pub decreases-loop-to : goal.decreases-loop-to
-decreases-loop-to l = l.to - l.i
+invariant-loop-to l = Opening (decode l.initial.image) l.i (l.to - 1) l.image

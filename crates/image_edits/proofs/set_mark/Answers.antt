@@ -1,5 +1,4 @@
 -- `image::set_mark` meets its contract. One part edited and sealed is that block put anew (Lifting). Assumes nothing.
-use Prim.Native.Nat.{◌-◌}
 use mathlib.Core.Path.{refl}
 use native.Mathlib.Omega.{arith}
 use Rattle.block.proofs.Numbers.{bytes_of}
