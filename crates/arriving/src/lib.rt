@@ -69,10 +69,8 @@ fn enter_point(b: &[u8], n: Controller, here: Counter, t: Tried) -> Tried
 {
     let count = record::version_count(b) as usize;
     let mut last = t;
-    let mut i: usize = 0;
-    while i < count {
+    for i in 0..count {
         last = enter_version(record::version_dot(b, i), n, here, last);
-        i += 1;
     }
     last
 }
@@ -102,17 +100,14 @@ fn enter_points(image: &[u8], count: usize, points: &[u8], n: Controller, r: Row
     requires { (length image.now ≡ image_length) × (good_image image.now ≡ true) × (count ≡ length (decode image.now).points) × Few points.now × Crew n × (sound r ≡ true) }
     ensures { result ≡ fold tried (record { row = r; left = false }) (arriving_with (decode image.now) n (points_in points.now)) }
 {
-    let many = points.len() / 512;
     let mut last = Tried {
         row: r,
         left: false,
     };
-    let mut j: usize = 0;
-    while j < many {
+    for j in 0..points.len() / 512 {
         let at = 512 * j;
         let here = local_entry(image, count, record::key_of(&points[at..at + 512]), n);
         last = enter_point(&points[at..at + 512], n, here, last);
-        j += 1;
     }
     last
 }
@@ -171,12 +166,10 @@ pub fn enter_rows(image: &[u8], count: usize, points: &[u8], rows: &mut [u8]) ->
         × (result ≡ true → decode_clock rows.new ≡ with_arrivals (decode image.now) (decode_clock rows.old) (points_in points.now))
         × (length rows.new ≡ 96) }
 {
-    let mut n: u8 = 1;
-    while n < 9 {
+    for n in 1..9 {
         if !enter_row_at(image, count, points, Controller(n), rows) {
             return false;
         }
-        n += 1;
     }
     true
 }

@@ -1,5 +1,4 @@
 -- `arriving::enter_point` meets its contract. The invariant: the versions before i were tried (Folding). Assumes nothing.
-use Prim.Native.Nat.{◌-◌}
 use mathlib.Core.Path.{◌≡◌}
 use mathlib.Core.Bool.{true}
 use Rattle.block.specs.Fields.{field}
@@ -11,6 +10,3 @@ use Rattle.arriving.proofs.enter_point.Given as goal
 
 abbrev pub invariant-loop-i : goal.invariant-loop-i
 invariant-loop-i l = Folded (try_version l.n l.here) (field l.b 5 1) (version_at l.b) l.initial.last l.i l.last × (sound l.last.row ≡ true)
-
-abbrev pub decreases-loop-i : goal.decreases-loop-i
-decreases-loop-i l = l.count - l.i

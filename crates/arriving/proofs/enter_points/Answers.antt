@@ -1,24 +1,14 @@
 -- `arriving::enter_points` meets its contract. The invariant: the points before j were tried (OfPoints). Assumes nothing.
-use Prim.Native.Nat.{◌-◌, ◌/◌}
 use mathlib.Core.Path.{◌∙◌}
 use mathlib.Core.Bool.{false}
-use lib.ListN.{length}
-use Rattle.block.specs.Block.{block_at}
 use Rattle.block.proofs.Numbers.{bytes_of}
-use Rattle.layout.specs.PointBlock.{form_1, decode_stored}
 use Rattle.layout.specs.Image.{decode}
 use Rattle.store.proofs.Lent.{good_ascends, good_canonical}
-use Rattle.arriving.proofs.Folding.{none_folded, folded_all}
-use Rattle.arriving.proofs.Arrivals.{try_point, tried_points}
+use Rattle.arriving.proofs.Folding.{folded_all}
+use Rattle.arriving.proofs.Arrivals.{tried_points}
 use Rattle.arriving.proofs.OfPoints.{lent_size, lent_few, point_tried}
 use native.Mathlib.Omega.{arith}
 use Rattle.arriving.proofs.enter_points.Goals as goal
-
-pub loop-j-init : goal.loop-j-init
-loop-j-init c = (none_folded (try_point (decode c.args.image.now) c.args.n) (length c.args.points.now / 512) (λ i. decode_stored form_1 (block_at c.args.points.now i)) (record { row = c.args.r; left = false }), c.requires.5)
-
-pub key_of-requires : goal.key_of-requires
-key_of-requires c = lent_size c.args.points.now (bytes_of c.args.points.now c.type_inv.points) c.loop-j.j (omega arith)
 
 pub local_entry-here-requires : goal.local_entry-here-requires
 local_entry-here-requires c = (c.requires.0, good_canonical c.args.image.now c.requires.1, c.requires.2, good_ascends c.args.image.now c.requires.1, c.requires.4)

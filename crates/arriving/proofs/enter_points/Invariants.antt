@@ -1,5 +1,5 @@
 -- `arriving::enter_points` meets its contract. The invariant: the points before j were tried (OfPoints). Assumes nothing.
-use Prim.Native.Nat.{◌-◌, ◌/◌}
+use Prim.Native.Nat.{◌/◌}
 use mathlib.Core.Path.{◌≡◌}
 use mathlib.Core.Bool.{true}
 use lib.ListN.{length}
@@ -13,6 +13,3 @@ use Rattle.arriving.proofs.enter_points.Given as goal
 
 abbrev pub invariant-loop-j : goal.invariant-loop-j
 invariant-loop-j l = Folded (try_point (decode l.image) l.n) (length l.points / 512) (λ i. decode_stored form_1 (block_at l.points i)) l.initial.last l.j l.last × (sound l.last.row ≡ true)
-
-abbrev pub decreases-loop-j : goal.decreases-loop-j
-decreases-loop-j l = l.many - l.j
