@@ -165,7 +165,7 @@ pub fn enter_rows(image: &[u8], count: usize, points: &[u8], rows: &mut [u8]) ->
         × (result ≡ true → decode_clock rows.new ≡ with_arrivals (decode image.now) (decode_clock rows.old) (points_in points.now))
         × (length rows.new ≡ 96) }
 {
-    for n in 1..9u8 {
+    for n in 1..9 {
         if !enter_row_at(image, count, points, Controller(n), rows) {
             return false;
         }

@@ -21,7 +21,7 @@ pub fn stored_count(image: &[u8]) -> usize
     requires { length image.now ≡ image_length }
     ensures { result ≡ stored_count image.now }
 {
-    (0..64usize)
+    (0..64)
         .find(|n| block::u8_at(image, 512 * (3 + *n)) == 0)
         .unwrap_or(64)
 }

@@ -121,9 +121,7 @@ pub fn set_rows(image: &mut [u8], rows: &[u8])
     requires { (length image.old ≡ image_length) × Canonical image.old × (length rows.now ≡ 96) }
     ensures { (decode image.new ≡ with_clock (decode image.old) (decode_clock rows.now)) × Canonical image.new }
 {
-    let mut n: u8 = 1;
-    while n < 9 {
+    for n in 1..9 {
         image_edits::set_row(image, Controller(n), parts::row_at(rows, Controller(n)));
-        n += 1;
     }
 }

@@ -25,9 +25,6 @@ pub record Made (f : Controller → Counter) (i : ℕ) (out : List ℕ) : Type 0
   pub so_far : (k : ℕ) → k < i → get_or out k 0 ≡ (f (controller (k + 1))).0
 
 module _ (f : Controller → Counter) where
-  pub made_none : (out : List ℕ) → length out ≡ 8 → Made f 0 out
-  made_none out e = record { done = omega arith; size = e; so_far = λ k l. absurd (omega arith) }
-
   module _ (i : ℕ) (out : List ℕ) (M : Made f i out) where
     pub made_more : i < 8 → {c : Counter} → c ≡ f (controller (i + 1)) → Made f (i + 1) (set out i c.0)
     made_more l {c} e = record {

@@ -24,7 +24,7 @@ pub fn filled_context(stored: &[u8], job: u8, table: &[u8], rows: &[u8], out: &m
     requires { (length stored.now ≡ 32) × (length table.now ≡ 8) × (length rows.now ≡ 96) × (length out.old ≡ 8) }
     ensures { (map counter out.new ≡ fill_context table.now job (decode_clock rows.now) (decode_context stored.now)) × (length out.new ≡ 8) }
 {
-    for i in 0..8u8 {
+    for i in 0..8 {
         let n = Controller(i + 1);
         let at = i as usize;
         let e = Counter(block::u32_at(stored, 4 * at));
@@ -87,7 +87,7 @@ pub fn raise_to(b: &mut [u8], there: &[u32])
     requires { (length b.old ≡ 512) × Laid lay_point point_block b.old × (length there.now ≡ 8) }
     ensures { (point_block b.new ≡ with_context (point_block b.old) (higher (decode_point form_1 b.old).object.context (map counter there.now))) × Laid lay_point point_block b.new }
 {
-    for i in 0..8u8 {
+    for i in 0..8 {
         let n = Controller(i + 1);
         let e = record::context_entry(b, n);
         let other = there[i as usize];
@@ -135,7 +135,7 @@ pub fn settled_by(here: &[u32], there: &[u32], rows: &[u8]) -> bool
     requires { (length here.now ≡ 8) × (length there.now ≡ 8) × (length rows.now ≡ 96) }
     ensures { result ≡ is_empty (strip_context (decode_clock rows.now) (higher (map counter here.now) (map counter there.now))) }
 {
-    (0..8u8).all(|i| {
+    (0..8).all(|i| {
         let at = i as usize;
         let e = higher_entry(Counter(here[at]), there[at]);
         e.0 <= parts::row_at(rows, Controller(i + 1)).base

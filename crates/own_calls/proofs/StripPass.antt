@@ -1,27 +1,28 @@
 -- The strip pass, record by record, and its definition case by case. Assumes nothing.
+<<<<<<< /tmp/o
 use Rattle.std.specs.Prelude.{if◌then◌else◌, Ok, Err}
 use Prim.Native.Nat.{ℕ, suc, ◌-◌, ◌≤◌, ◌<◌}
 use mathlib.Core.Path.{◌≡◌, refl, ap, ap₂, sym, ◌∙◌}
 use mathlib.Core.Bool.{Bool, true, false}
 use mathlib.Core.List.{List, [], ◌∷◌}
+=======
+use Prim.Native.Nat.{ℕ, ◌-◌, ◌≤◌}
+use mathlib.Core.Path.{◌≡◌, ap, ap₂, sym, ◌∙◌}
+use mathlib.Core.Bool.{true}
+use mathlib.Core.List.{List, []}
+>>>>>>> /tmp/t
 use native.Mathlib.Omega.{arith}
-use lib.ListN.{length, take, drop, get_or, length-append, length-take, length-drop}
+use lib.ListN.{length}
 use Rattle.numbers.specs.Words.{ascends?}
 use Rattle.refusal.specs.declared.Refusal.{Refusal}
 use Rattle.refusal.specs.Refusal.{Answer, accepted, verdict_of}
-use Rattle.block.specs.Fields.{put_at, remove_at}
-use Rattle.block.proofs.Parts.{splice_length}
 use Rattle.meaning.specs.Clock.{Clock}
-use Rattle.meaning.specs.Object.{strip, gone}
 use Rattle.meaning.specs.State.{Stored, State, stored_before}
 use Rattle.meaning.specs.OwnSteps.{strip_pass}
-use Rattle.meaning.specs.Settle.{stripped}
 use Rattle.layout.specs.Image.{image_length, encode, decode}
 use Rattle.layout.specs.Calls.{Left, afterwards, on_image, strip_pass_call}
-use Rattle.image.specs.Places.{no_point}
 use Rattle.image_edits.specs.Edits.{Canonical, with_points}
-use Rattle.store.specs.Restored.{restored}
-use Rattle.store.proofs.Pass.{kept, pass_is, from, from_none, from_more}
+use Rattle.store.proofs.Pass.{pass_is, from, from_none}
 use Rattle.store.proofs.Untouched.{untouched}
 use Rattle.opening.specs.Admitted.{opened}
 use Rattle.opening.proofs.Ladder.{refused_leaves, refused_first, opened_steps}
@@ -53,41 +54,6 @@ module _ (s : State) where
     counted = q ∙ ap (λ (t : State). length t.points) (sym e);
     few = omega arith;
   }
-
-  module _ (img : List ℕ) (i count : ℕ) (S : Stripping s i count img) (more : 0 < i) where
-    here : i ≡ suc (i - 1)
-    here = omega arith
-
-    now_points : (decode img).points ≡ from s.clock s.points (suc (i - 1))
-    now_points = ap (λ (t : State). t.points) S.is ∙ ap (from k ps) here
-
-    pub stripping_inside : i - 1 < count
-    stripping_inside = omega (arith, S.counted, ap length now_points, length-append (take (suc (i - 1)) ps) (kept k (drop (suc (i - 1)) ps)), length-take (suc (i - 1)) ps, S.left)
-
-    pub stripping_more : (x : List ℕ) (m : ℕ) → length x ≡ image_length → (decode x ≡ with_points (decode img) (restored s.clock (decode img).points (i - 1))) × Canonical x → m ≡ length (restored s.clock (decode img).points (i - 1)) → m ≤ count → Stripping s (i - 1) m x
-    stripping_more x m size r e fewer = record {
-      size = size;
-      left = omega (arith, S.left);
-      is = r.0 ∙ ap₂ (λ (t : State) (qs : List Stored). with_points t (restored k qs (i - 1))) S.is now_points ∙ ap (with_points s) (from_more k ps (i - 1) (omega (arith, S.left)));
-      canonical = r.1;
-      counted = e ∙ ap (λ (t : State). length t.points) (sym r.0);
-      few = omega (arith, S.few);
-    }
-
-    abbrev qs : List Stored
-    qs = (decode img).points
-
-    -- one less where it went
-    pub went_one : gone (strip s.clock (get_or (decode img).points (i - 1) no_point).object) ≡ true → count - 1 ≡ length (restored s.clock (decode img).points (i - 1))
-    went_one g = sym (ap (λ (b : Bool). length (if b then remove_at qs (i - 1) else put_at qs (i - 1) (stripped k (get_or qs (i - 1) no_point)))) g ∙ fewer)
-      where
-        fewer : length (remove_at qs (i - 1)) ≡ count - 1
-        fewer = simp (length-append, length-take, length-drop) (omega (arith, S.counted, stripping_inside))
-
-    pub went_none : gone (strip s.clock (get_or (decode img).points (i - 1) no_point).object) ≡ false → count ≡ length (restored s.clock (decode img).points (i - 1))
-    went_none g =
-        S.counted
-        ∙ sym (ap (λ (b : Bool). length (if b then remove_at qs (i - 1) else put_at qs (i - 1) (stripped k (get_or qs (i - 1) no_point)))) g ∙ splice_length qs (i - 1) 1 (stripped k (get_or qs (i - 1) no_point) ∷ []) (omega (arith, S.counted, stripping_inside)) refl)
 
   -- all are
   module _ (img : List ℕ) (i count : ℕ) (S : Stripping s i count img) (end : i ≤ 0) (up : ascends? stored_before s.points ≡ true) where

@@ -87,9 +87,7 @@ fn strip_all(image: &mut [u8], rows: &[u8]) -> u32
 {
     let stored = image::stored_count(image);
     let mut count = stored;
-    let mut i = stored;
-    while 0 < i {
-        i -= 1;
+    for i in (0..stored).rev() {
         if store::strip_at(image, count, i, rows) {
             count -= 1;
         }

@@ -8,11 +8,15 @@ use lib.ListN.{length, take, drop, get_or}
 use lib.Dec.{leb}
 use Rattle.numbers.specs.declared.Controller.{Controller}
 use Rattle.numbers.specs.declared.Dot.{Dot}
-use Rattle.numbers.specs.Numbers.{Crew}
+use Rattle.numbers.specs.Words.{all?}
+use Rattle.numbers.specs.Numbers.{controller, controllers, Crew}
+use Rattle.numbers.proofs.Tests.{by_test, never}
 use Rattle.block.specs.Fields.{cut, field}
 use Rattle.block.proofs.Numbers.{Bytes, bytes_cut}
 use Rattle.block.proofs.Parts.{length_cut, part_is}
 use Rattle.block.proofs.Arrays.{upto_at}
+use Rattle.std.specs.Bool.{MatchBool}
+use Rattle.laws.proofs.Facts.{each_controller, every_controller}
 use Rattle.meaning.specs.CrewTable.{CrewTable}
 use Rattle.meaning.specs.State.{Listed, Watermark, mark, State, peers}
 use Rattle.meaning.specs.Exchange.{known_to_all}
@@ -35,6 +39,11 @@ module _ (t : CrewTable) (w : Watermark) (d : Dot) (m : Controller) (r : Bool) (
 
   pub by_mark : r ≡ true → (x : ℕ) → x ≡ mark w m d.who → leb d.count.0 x ≡ known_to t w d m
   by_mark h x f = ap (leb d.count.0) f ∙ sym (ap (λ (b : Bool). not b || leb d.count.0 (mark w m d.who)) (sym e ∙ h))
+
+-- all eight, one after the other: r is what was answered
+pub all_asked_of : (f : Controller → Bool) (r : Bool) → MatchBool r ((k : ℕ) → 1 ≤ k → k < 9 → f (controller k) ≡ true) ((k : ℕ) × (1 ≤ k) × (k < 9) × (f (controller k) ≡ false)) → r ≡ all? f controllers
+all_asked_of f true h = sym (every_controller f (λ m c. h m.0 c.0 (omega (arith, c.1))))
+all_asked_of f false h = by_test (all? f controllers) (λ e. never (each_controller f e (controller h.0) (h.1, omega (arith, h.2))) h.3) (λ e. sym e)
 
 -- ---- a list as it is lent
 

@@ -1,6 +1,6 @@
 -- The marks for one controller raised, and those for all eight one after the other. Assumes nothing.
 use Rattle.std.specs.Prelude.{if◌then◌else◌}
-use Prim.Native.Nat.{ℕ, ◌+◌, ◌-◌, ◌≤◌, ◌<◌, max}
+use Prim.Native.Nat.{ℕ, ◌+◌, ◌≤◌, ◌<◌, max}
 use mathlib.Core.Path.{◌≡◌, refl, ap, ap₂, sym, ◌∙◌, subst}
 use mathlib.Core.Bool.{Bool, true, false, ◌&&◌}
 use mathlib.Core.List.{List}
@@ -146,9 +146,6 @@ module _ (s : State) (r : Reply) where
     pub square : Square (decode img).watermark
     pub done : (a b : Controller) → Crew a → Crew b → b.0 < n → mark (decode img).watermark a b ≡ raised_mark s r a b
     pub kept : (a b : Controller) → Crew a → Crew b → n ≤ b.0 → mark (decode img).watermark a b ≡ mark s.watermark a b
-
-  pub same_own : (n : ℕ) (img : List ℕ) → Raised n img → (decode img).own ≡ s.own
-  same_own n img R = ap (λ (z : State). z.own) R.is
 
   module _ (n : ℕ) (img : List ℕ) (R : Raised n img) (l : n < 9) (x : List ℕ) (long : length x ≡ image_length)
       (e : (decode x ≡ with_marks (decode img) (raised_about (decode img) r (controller n))) × Canonical x) where

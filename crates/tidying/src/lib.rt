@@ -47,10 +47,8 @@ fn raise_marks(image: &mut [u8], sender: Controller, rows: &[u8])
     requires { (length image.old ≡ image_length) × Canonical image.old × Crew sender × (length rows.now ≡ 96) × Crew (decode image.old).own × (same_controller sender (decode image.old).own ≡ false) }
     ensures { (decode image.new ≡ with_marks (decode image.old) (raised (decode image.old) (said_by sender (decode_clock rows.now)))) × Canonical image.new }
 {
-    let mut n: u8 = 1;
-    while n < 9 {
+    for n in 1..9 {
         raise_about(image, sender, Controller(n), rows);
-        n += 1;
     }
 }
 
@@ -72,14 +70,7 @@ fn known_to_all(table: &[u8], marks: &[u8], d: Dot) -> bool
     requires { (length table.now ≡ 8) × (length marks.now ≡ 256) × Crew d.who }
     ensures { result ≡ dot_known table.now (decode_marks marks.now) d }
 {
-    let mut m: u8 = 1;
-    while m < 9 {
-        if !known_to(table, marks, d, Controller(m)) {
-            return false;
-        }
-        m += 1;
-    }
-    true
+    (1..9).all(|m| known_to(table, marks, d, Controller(m)))
 }
 
 // The same of the i-th dot of a list: of the own dots, in block 1, or of the foreign ones, in block 2.
@@ -109,9 +100,8 @@ fn drop_known(image: &mut [u8], list: usize)
     ensures { (decode image.new ≡ with_list (decode image.old) list (keep (λ l. not (known_now (decode image.old) l)) (list_of (decode image.old) list))) × Canonical image.new }
 {
     let at = 512 * list;
-    let mut i = dots::entry_count(&image[at..at + 512]) as usize;
-    while 0 < i {
-        i -= 1;
+    let count = dots::entry_count(&image[at..at + 512]) as usize;
+    for i in (0..count).rev() {
         drop_entry(image, list, i);
     }
 }

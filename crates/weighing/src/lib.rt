@@ -48,10 +48,8 @@ pub fn given_context(stored: &[u8], out: &mut [u32])
     requires { (length stored.now ≡ 32) × (length out.old ≡ 8) }
     ensures { (map counter out.new ≡ decode_context stored.now) × (length out.new ≡ 8) }
 {
-    let mut i: usize = 0;
-    while i < 8 {
+    for i in 0..8 {
         out[i] = block::u32_at(stored, 4 * i);
-        i += 1;
     }
 }
 

