@@ -17,3 +17,5 @@ pub mod ByIndex
 pub mod Search
 pub mod Placed
 pub mod Runs
+pub mod Roads
+pub mod Chunks
