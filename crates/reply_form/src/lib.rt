@@ -16,16 +16,7 @@ pub fn reply_sealed(reply: &[u8]) -> bool
     requires { whole_reply reply.now ≡ true }
     ensures { result ≡ checks_right reply.now }
 {
-    let many = reply.len() / 512;
-    let mut i: usize = 0;
-    while i < many {
-        let at = 512 * i;
-        if !block::is_sealed(&reply[at..at + 512]) {
-            return false;
-        }
-        i += 1;
-    }
-    true
+    reply.chunks_exact(512).all(|b| block::is_sealed(b))
 }
 
 // ---- 4, of bytes
@@ -35,16 +26,10 @@ fn points_laid_out(points: &[u8]) -> bool
     requires { length points.now ≤ 61440 }
     ensures { result ≡ points_laid_out points.now }
 {
-    let many = points.len() / 512;
-    let mut i: usize = 0;
-    while i < many {
-        let at = 512 * i;
-        if !record::stored_laid_out(&points[at..at + 512], (1 + i) as u16) {
-            return false;
-        }
-        i += 1;
-    }
-    true
+    points
+        .chunks_exact(512)
+        .enumerate()
+        .all(|(i, b)| record::stored_laid_out(b, (1 + i) as u16))
 }
 
 // "kind, format, position, .. padding, number of points against length": the head counts the blocks that follow it.
@@ -66,16 +51,9 @@ fn each_formed(points: &[u8], table: &[u8]) -> bool
     requires { Few points.now × (length table.now ≡ 8) }
     ensures { result ≡ each_formed table.now (points_in points.now) }
 {
-    let many = points.len() / 512;
-    let mut i: usize = 0;
-    while i < many {
-        let at = 512 * i;
-        if !record::point_formed(&points[at..at + 512], table) {
-            return false;
-        }
-        i += 1;
-    }
-    true
+    points
+        .chunks_exact(512)
+        .all(|b| record::point_formed(b, table))
 }
 
 // "Fill raises each context entry": each version is covered by its context once that is filled with the reply's rows.
@@ -83,35 +61,19 @@ fn each_covered(points: &[u8], table: &[u8], rows: &[u8]) -> bool
     requires { Few points.now × (length table.now ≡ 8) × (length rows.now ≡ 96) × (each_formed table.now (points_in points.now) ≡ true) }
     ensures { result ≡ each_covered table.now (decode_clock rows.now) (points_in points.now) }
 {
-    let many = points.len() / 512;
-    let mut i: usize = 0;
-    while i < many {
-        let at = 512 * i;
-        if !record::covered_filled(&points[at..at + 512], table, rows) {
-            return false;
-        }
-        i += 1;
-    }
-    true
+    points
+        .chunks_exact(512)
+        .all(|b| record::covered_filled(b, table, rows))
 }
 
 // "ascending by job and point, none twice": each comes before the next.
 fn keys_ascend(points: &[u8]) -> bool
     ensures { result ≡ ascends? stored_before (points_in points.now) }
 {
-    let many = points.len() / 512;
-    let mut i: usize = 0;
-    while i + 1 < many {
-        let at = 512 * i;
-        let after = 512 * (i + 1);
-        let here = record::key_of(&points[at..at + 512]);
-        let next = record::key_of(&points[after..after + 512]);
-        if !here.before(next) {
-            return false;
-        }
-        i += 1;
-    }
-    true
+    points
+        .chunks_exact(512)
+        .map(record::key_of)
+        .is_sorted_by(|a, b| a.before(*b))
 }
 
 // No dot stands in two points: keys that ascend are all different, so no two points may share one.
