@@ -35,16 +35,7 @@ fn jobs_held(image: &[u8], sender: Controller, points: &[u8]) -> bool
     requires { (length image.now ≡ image_length) × (good_image image.now ≡ true) × Crew sender }
     ensures { result ≡ all? (λ p. both_hold (decode image.now) sender p.key) (points_in points.now) }
 {
-    let many = points.len() / 512;
-    let mut i: usize = 0;
-    while i < many {
-        let at = 512 * i;
-        if !job_held(image, sender, &points[at..at + 512]) {
-            return false;
-        }
-        i += 1;
-    }
-    true
+    points.chunks_exact(512).all(|b| job_held(image, sender, b))
 }
 
 // 9: "message names, in a dot, context .., an own counter above our base", in one of the points.
@@ -55,16 +46,9 @@ fn points_ahead(image: &[u8], points: &[u8]) -> bool
     let own = head::own_of(&image[0..512]);
     let ours = parts::row_at(&image[16..112], own);
     let base = ours.base;
-    let many = points.len() / 512;
-    let mut i: usize = 0;
-    while i < many {
-        let at = 512 * i;
-        if checking::ahead_of_us(&points[at..at + 512], own, base) {
-            return true;
-        }
-        i += 1;
-    }
-    false
+    points
+        .chunks_exact(512)
+        .any(|b| checking::ahead_of_us(b, own, base))
 }
 
 // 10: "a version's dot in the message is stored here with other contents, or stored or listed here for another point", in one of the points.
@@ -72,16 +56,9 @@ fn points_clash(image: &[u8], count: usize, points: &[u8]) -> bool
     requires { (length image.now ≡ image_length) × (good_image image.now ≡ true) × (count ≡ length (decode image.now).points) × AllLaid points.now }
     ensures { result ≡ some? (λ p. some? (clashes (decode image.now) p.key) p.object.versions) (points_in points.now) }
 {
-    let many = points.len() / 512;
-    let mut i: usize = 0;
-    while i < many {
-        let at = 512 * i;
-        if checking::clashing(image, count, &points[at..at + 512]) {
-            return true;
-        }
-        i += 1;
-    }
-    false
+    points
+        .chunks_exact(512)
+        .any(|b| checking::clashing(image, count, b))
 }
 
 // The first of rows 5, 6, 9 and 10 that applies to a well-formed reply.
