@@ -113,3 +113,16 @@ module _ (s : State) (k c : Clock) (run ms : List ℕ) (w i : ℕ) (rising : asc
           let e : reached s k c run ms w (i + 1) ≡ with_points z (put c z.points (mend z k (decode_stored form_1 b))) =
           sym (passed_on (merged_if z k c b (get_or ms i 0) w) refl) ∙ ap (λ (x : Bool). if x then with_points z (put c z.points (mend z k (decode_stored form_1 b))) else z) t in
           subst (λ (x : State). length x.points ≤ most_points) e (room (i + 1) (omega arith))
+
+      -- with the mark as it is lent too
+      module _ (m : ℕ) (own : m ≡ get_or ms i 0) where
+        pub may_merge : ascends? stored_before s.points ≡ true → AllJoinable s k w run ms → RoomFor c s k w run ms
+            → (ascends? stored_before z.points ≡ true) × (length b ≡ 512) × Laid lay_point point_block b × (eqb m w ≡ true → Joinable z k b)
+            × (eqb m w ≡ true → length (put c z.points (mend z k (decode_stored form_1 b))) ≤ most_points)
+        may_merge up can room =
+            let j = still_joinable can in
+            let chosen = λ (t : eqb m w ≡ true). ap (λ (x : ℕ). eqb x w) (sym own) ∙ t in
+            (still_ascends up, j.0, j.1, (λ t. j.2 (chosen t)), λ t. still_room room (chosen t))
+
+        pub merged : (y : State) → y ≡ merged_if z k c b m w → y ≡ reached s k c run ms w (i + 1)
+        merged y e = passed_on y (e ∙ ap (λ (x : ℕ). merged_if z k c b x w) own)

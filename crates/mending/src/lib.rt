@@ -104,11 +104,7 @@ pub fn merge_marked(
     ensures { (decode image.new ≡ with_points (decode image.old) (fold (put (decode_clock rows.now)) (decode image.old).points (marked which (take (length points.now / 512) marks.now) (results (decode image.old) (decode_clock clock.now) points.now))))
         × Canonical image.new }
 {
-    let n = points.len() / 512;
-    let mut i: usize = 0;
-    while i < n {
-        let at = 512 * i;
-        merge_if(image, &points[at..at + 512], clock, rows, marks[i], which);
-        i += 1;
+    for (b, mark) in points.chunks_exact(512).zip(marks) {
+        merge_if(image, b, clock, rows, *mark, which);
     }
 }
