@@ -95,20 +95,17 @@ fn weigh_all(
     ensures { AllWeighed (decode image.now) (decode_clock rows.now) (results (decode image.now) (decode_clock clock.now) points.now) (length points.now / 512) result.many result.coming result.going marks.new
         × (length marks.new ≡ 120) }
 {
-    let n = points.len() / 512;
     let mut many = false;
     let mut coming: usize = 0;
     let mut going: usize = 0;
-    let mut i: usize = 0;
-    while i < n {
-        let w = weigh_point(image, count, &points[512 * i..512 * i + 512], clock, rows);
+    for (i, b) in points.chunks_exact(512).enumerate() {
+        let w = weigh_point(image, count, b, clock, rows);
         many = many | w.many;
         let comes = as_mark(w.comes);
         let goes = as_mark(w.goes);
         marks[i] = comes;
         coming += comes as usize;
         going += goes as usize;
-        i += 1;
     }
     Weights {
         many: many,
