@@ -26,7 +26,7 @@ use Rattle.layout.specs.Listing.{space, newline, word_controller, word_records, 
 use Rattle.image.specs.Parts.{stored_count}
 use Rattle.image.specs.Apart.{point_at}
 use Rattle.image.proofs.Counted.{points_are}
-use Rattle.block.proofs.Runs.{block_part}
+use Rattle.block.proofs.Runs.{block_of_drop}
 use Rattle.listing.specs.Put.{label, record_lines}
 
 -- ---- numbers
@@ -132,8 +132,9 @@ first_is img o n m k p q r s = λ j. first (p j).0 (points j) (r j) (s j)
     points : n ≡ length (decode img).points
     points = q ∙ sym (ap length (points_are img) ∙ upto_length (stored_count img) (λ i. decode_stored form_1 (block_at img (3 + i))))
 
-pub points_part : (img : List ℕ) (i : ℕ) → record_lines (decode_stored form_1 (take (512 * (3 + i) + 512 - 512 * (3 + i)) (drop (512 * (3 + i)) img))) ≡ record_lines (point_at img i)
-points_part img i = ap (λ (b : List ℕ). record_lines (decode_stored form_1 b)) (block_part img (3 + i))
+-- the points stand in the blocks from the fourth on
+pub point_lines : (img : List ℕ) (i : ℕ) {b : List ℕ} → b ≡ block_at (drop 1536 img) i → record_lines (decode_stored form_1 b) ≡ record_lines (point_at img i)
+point_lines img i e = ap (λ (b : List ℕ). record_lines (decode_stored form_1 b)) (e ∙ block_of_drop img 3 i)
 
 pub all_points : (img : List ℕ) (n : ℕ) → n ≡ stored_count img → concat_map record_lines (upto n (point_at img)) ≡ concat_map record_lines (decode img).points
 all_points img n e = ap (concat_map record_lines) (ap (λ (k : ℕ). upto k (point_at img)) e ∙ sym (points_are img))

@@ -86,10 +86,8 @@ fn put_hex(out: &mut [u8], at: usize, said: &[u8]) -> usize
     ensures { Put out.old at (concat_map hex said.now) (2 * length said.now) out.new result }
 {
     let mut end = at;
-    let mut i: usize = 0;
-    while i < said.len() {
-        end = put_hex_byte(out, end, said[i]);
-        i += 1;
+    for x in said {
+        end = put_hex_byte(out, end, *x);
     }
     end
 }
@@ -154,10 +152,8 @@ fn put_record_lines(out: &mut [u8], at: usize, b: &[u8]) -> usize
 {
     let count = at_most(record::version_count(b) as usize, 8);
     let mut end = at;
-    let mut i: usize = 0;
-    while i < count {
+    for i in 0..count {
         end = put_version_line(out, end, b, i);
-        i += 1;
     }
     end
 }
@@ -168,11 +164,8 @@ fn put_points(out: &mut [u8], at: usize, image: &[u8]) -> usize
 {
     let count = image::stored_count(image);
     let mut end = at;
-    let mut i: usize = 0;
-    while i < count {
-        let from = 512 * (3 + i);
-        end = put_record_lines(out, end, &image[from..from + 512]);
-        i += 1;
+    for b in image[1536..].chunks_exact(512).take(count) {
+        end = put_record_lines(out, end, b);
     }
     end
 }

@@ -1,52 +1,28 @@
--- `listing::put_points` meets its contract. The invariant: the lines of the points before the i-th stand. Assumes nothing.
-use Prim.Native.Nat.{◌*◌, ◌-◌}
-use mathlib.Core.Path.{◌≡◌, ◌∙◌}
+-- `listing::put_points` meets its contract. The invariant: the lines of the points before the one that comes stand. Assumes nothing.
+use Prim.Native.Nat.{◌*◌, ◌/◌, ◌≤◌}
+use mathlib.Core.Path.{◌∙◌}
 use native.Mathlib.Omega.{arith}
+use lib.ListN.{length, drop, length-append, length-drop}
+use Rattle.block.proofs.Runs.{lent_rest}
+use Rattle.block.proofs.Roads.{from_there, turn, end}
+use Rattle.block.proofs.Chunks.{taken_given}
 use Rattle.image.specs.Apart.{point_at}
 use Rattle.image.proofs.Counted.{stored_few}
 use Rattle.listing.specs.Put.{record_lines, most_line}
-use Rattle.listing.proofs.Texts.{points_part, all_points}
-use Rattle.listing.proofs.Putting.{nothing_put, one_more, at_most, as_text}
+use Rattle.listing.proofs.Texts.{point_lines, all_points}
+use Rattle.listing.proofs.Putting.{one_more, at_most, as_text}
 use Rattle.listing.proofs.put_points.Goals as goal
 
-pub stored_count-count-requires : goal.stored_count-count-requires
-stored_count-count-requires c = omega arith
-
-pub loop-i-init : goal.loop-i-init
-loop-i-init c = (omega arith, omega (arith, stored_few c.args.image.now, c.stored_count-count.ensures), c.stored_count-count.ensures, nothing_put c.args.out.now c.args.at (omega arith))
-
-pub overflow_add-from : goal.overflow_add-from
-overflow_add-from c = omega arith
-
-pub overflow_mul-from : goal.overflow_mul-from
-overflow_mul-from c = omega arith
-
-pub overflow_add-from-in-loop-i : goal.overflow_add-from-in-loop-i
-overflow_add-from-in-loop-i c = omega arith
-
-pub slice_bounds-put_record_lines-count : goal.slice_bounds-put_record_lines-count
-slice_bounds-put_record_lines-count c = omega arith
-
-pub slice_bounds-put_record_lines-start : goal.slice_bounds-put_record_lines-start
-slice_bounds-put_record_lines-start c = omega arith
-
-pub slice_bounds-put_record_lines-end : goal.slice_bounds-put_record_lines-end
-slice_bounds-put_record_lines-end c = omega arith
-
-pub put_record_lines-end-requires : goal.put_record_lines-end-requires
-put_record_lines-end-requires c = (omega arith, omega arith)
-
-pub overflow_add-i : goal.overflow_add-i
-overflow_add-i c = omega arith
-
-pub loop-i-smaller : goal.loop-i-smaller
-loop-i-smaller c = omega arith
-
-pub loop-i-preserved : goal.loop-i-preserved
-loop-i-preserved c = (omega arith, c.loop-i.invariant.1, c.loop-i.invariant.2, one_more record_lines (most_line * 8) c.loop-i.i (point_at c.args.image.now) c.loop-i.invariant.3 (as_text (points_part c.args.image.now c.loop-i.i) c.put_record_lines-end.ensures))
-
-pub shape_of-out : goal.shape_of-out
-shape_of-out c = omega arith
+pub loop-b-preserved : goal.loop-b-preserved
+loop-b-preserved c =
+    let few : c.stored_count-count.result ≤ length (drop 1536 c.args.image.now) / 512 = omega (arith, length-drop 1536 c.args.image.now, stored_few c.args.image.now, c.stored_count-count.ensures) in
+    let road = from_there c.into_iter-b-iterator.ensures.into_iter_gives (taken_given (λ b. b) (drop 1536 c.args.image.now) (c.chunks_exact.ensures.rest ∙ lent_rest c.args.image.now 1536) c.chunks_exact.ensures.size c.take-b-items.ensures.source c.stored_count-count.result c.take-b-items.ensures.count few) in
+    let t = turn road c.loop-b.b-iterator c.next.new.self c.loop-b.yielded c.loop-b.yielded_by c.next.ensures.steps c.in-Some.is in
+    rw length-append (one_more record_lines (most_line * 8) (length c.loop-b.yielded) (point_at c.args.image.now) c.loop-b.invariant (as_text (point_lines c.args.image.now (length c.loop-b.yielded) t.1) c.put_record_lines-end.ensures))
 
 pub returns : goal.returns
-returns c = let full : c.loop-i.i ≡ c.stored_count-count.result = omega arith in as_text (all_points c.args.image.now c.loop-i.i (full ∙ c.loop-i.invariant.2)) (at_most (most_line * 8 * 64) c.loop-i.invariant.3 (omega arith))
+returns c =
+    let few : c.stored_count-count.result ≤ length (drop 1536 c.args.image.now) / 512 = omega (arith, length-drop 1536 c.args.image.now, stored_few c.args.image.now, c.stored_count-count.ensures) in
+    let road = from_there c.into_iter-b-iterator.ensures.into_iter_gives (taken_given (λ b. b) (drop 1536 c.args.image.now) (c.chunks_exact.ensures.rest ∙ lent_rest c.args.image.now 1536) c.chunks_exact.ensures.size c.take-b-items.ensures.source c.stored_count-count.result c.take-b-items.ensures.count few) in
+    let all = end road c.loop-b.b-iterator c.next.new.self c.loop-b.yielded c.loop-b.yielded_by c.next.ensures.steps c.in-None.is in
+    as_text (all_points c.args.image.now (length c.loop-b.yielded) (all ∙ c.stored_count-count.ensures)) (at_most (most_line * 8 * 64) c.loop-b.invariant (omega (arith, all, stored_few c.args.image.now, c.stored_count-count.ensures)))

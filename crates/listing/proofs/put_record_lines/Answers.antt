@@ -1,5 +1,5 @@
 -- `listing::put_record_lines` meets its contract. The invariant: the lines of the versions before the i-th stand. Assumes nothing.
-use Prim.Native.Nat.{ℕ, ◌*◌, ◌-◌, min}
+use Prim.Native.Nat.{ℕ, ◌*◌, min}
 use mathlib.Core.Path.{◌≡◌, ap, ◌∙◌}
 use native.Mathlib.Omega.{arith}
 use Rattle.numbers.specs.Words.{concat_map}
@@ -7,35 +7,11 @@ use Rattle.layout.specs.PointBlock.{form_1, decode_stored}
 use Rattle.layout.specs.Listing.{version_line}
 use Rattle.listing.specs.Put.{most_line}
 use Rattle.listing.proofs.Texts.{slot, versions_are}
-use Rattle.listing.proofs.Putting.{nothing_put, one_more, at_most, as_text}
+use Rattle.listing.proofs.Putting.{one_more, at_most, as_text}
 use Rattle.listing.proofs.put_record_lines.Goals as goal
 
-pub version_count-requires : goal.version_count-requires
-version_count-requires c = omega arith
-
-pub overflow_cast-version_count : goal.overflow_cast-version_count
-overflow_cast-version_count c = omega arith
-
-pub at_most-count-requires : goal.at_most-count-requires
-at_most-count-requires c = omega arith
-
-pub loop-i-init : goal.loop-i-init
-loop-i-init c = (omega arith, nothing_put c.args.out.now c.args.at (omega arith))
-
-pub put_version_line-end-requires : goal.put_version_line-end-requires
-put_version_line-end-requires c = (omega arith, omega arith, omega arith)
-
-pub overflow_add-i : goal.overflow_add-i
-overflow_add-i c = omega arith
-
-pub loop-i-smaller : goal.loop-i-smaller
-loop-i-smaller c = omega arith
-
 pub loop-i-preserved : goal.loop-i-preserved
-loop-i-preserved c = (omega arith, one_more (version_line (decode_stored form_1 c.args.b.now).key) most_line c.loop-i.i (slot c.args.b.now) c.loop-i.invariant.1 c.put_version_line-end.ensures)
-
-pub shape_of-out : goal.shape_of-out
-shape_of-out c = omega arith
+loop-i-preserved c = one_more (version_line (decode_stored form_1 c.args.b.now).key) most_line c.loop-i.i (slot c.args.b.now) c.loop-i.invariant c.put_version_line-end.ensures
 
 pub returns : goal.returns
-returns c = let full : c.loop-i.i ≡ c.at_most-count.result = omega arith in as_text (ap (concat_map (version_line (decode_stored form_1 c.args.b.now).key)) (versions_are c.args.b.now c.loop-i.i (full ∙ c.at_most-count.ensures ∙ ap (λ (n : ℕ). min n 8) c.version_count.ensures))) (at_most (most_line * 8) c.loop-i.invariant.1 (omega arith))
+returns c = let full : c.loop-i.i ≡ c.at_most-count.result = omega arith in as_text (ap (concat_map (version_line (decode_stored form_1 c.args.b.now).key)) (versions_are c.args.b.now c.loop-i.i (full ∙ c.at_most-count.ensures ∙ ap (λ (n : ℕ). min n 8) c.version_count.ensures))) (at_most (most_line * 8) c.loop-i.invariant (omega arith))

@@ -1,5 +1,5 @@
 -- `listing::put_record_lines` meets its contract. The invariant: the lines of the versions before the i-th stand. Assumes nothing.
-use Prim.Native.Nat.{◌*◌, ◌-◌, ◌≤◌}
+use Prim.Native.Nat.{◌*◌}
 use Rattle.numbers.specs.Words.{concat_map}
 use Rattle.block.specs.Fields.{upto}
 use Rattle.layout.specs.PointBlock.{form_1, decode_stored}
@@ -9,7 +9,4 @@ use Rattle.listing.proofs.Texts.{slot}
 use Rattle.listing.proofs.put_record_lines.Given as goal
 
 abbrev pub invariant-loop-i : goal.invariant-loop-i
-invariant-loop-i l = (l.i ≤ l.count) × Put l.initial.out l.at (concat_map (version_line (decode_stored form_1 l.b).key) (upto l.i (slot l.b))) (most_line * l.i) l.out l.end
-
-abbrev pub decreases-loop-i : goal.decreases-loop-i
-decreases-loop-i l = l.count - l.i
+invariant-loop-i l = Put l.initial.out l.at (concat_map (version_line (decode_stored form_1 l.b).key) (upto l.i (slot l.b))) (most_line * l.i) l.out l.end
