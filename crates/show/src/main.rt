@@ -10,6 +10,7 @@ fn read_full<R: Read>(from: &mut R, buf: &mut [u8]) -> io::Result<usize>
     ensures { IfOk result (λ n. n ≤ length buf.new) }
 {
     let mut done: usize = 0;
+    // A `while`, since the reader says how far each turn comes: `read_exact` takes a short input for an error, and `io::copy` promises no bound on its count.
     while done < buf.len() {
         let n = from.read(&mut buf[done..])?;
         if n == 0 {
