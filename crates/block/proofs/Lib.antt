@@ -18,3 +18,4 @@ pub mod Placed
 pub mod Runs
 pub mod Chunks
 pub mod Begins
+pub mod Roads

@@ -17,7 +17,7 @@ use Rattle.meaning.specs.Clock.{Clock}
 use Rattle.meaning.specs.State.{Stored, State}
 use Rattle.layout.specs.PointBlock.{form_1, decode_stored}
 use Rattle.placing.specs.Placed.{comes, goes_away}
-use Rattle.arriving.proofs.Folding.{Folded, none_folded, folded_more, folded_all}
+use Rattle.arriving.proofs.Folding.{Folded, folded_more, folded_all}
 use Rattle.mending.specs.Mended.{mend, results}
 use Rattle.mending.proofs.Passing.{results_length}
 use Rattle.tallying.specs.Tallied.{mark, too_many, Weighed, AllWeighed}
@@ -70,17 +70,6 @@ mark_low true = omega arith
 mark_low false = omega arith
 
 module _ (s : State) (k c : Clock) (run : List ℕ) where
-  pub tally_none : (marks : List ℕ) → length marks ≡ 120 → Tallying s k c run 0 false 0 0 marks
-  tally_none marks e = record {
-    many_so = none_folded _ _ _ _;
-    coming_so = none_folded _ _ _ _;
-    going_so = none_folded _ _ _ _;
-    few_come = omega arith;
-    few_go = omega arith;
-    size = e;
-    marked = λ j l. absurd (omega arith);
-  }
-
   module _ (i : ℕ) (many : Bool) (coming going : ℕ) (marks : List ℕ) (T : Tallying s k c run i many coming going marks) where
     pub tally_more : i < length run / 512 → i < 120 → (a b d : Bool) → Weighed s c (result_at s k run i) a b d → (t : Bool) (x y z : ℕ) → t ≡ (many || a) → x ≡ coming + mark b → y ≡ going + mark d → z ≡ mark b
         → Tallying s k c run (i + 1) t x y (set marks i z)

@@ -6,7 +6,8 @@ use Rattle.std.proofs.Common.{rules}
 use Rattle.numbers.specs.Words.{some?}
 use Rattle.numbers.specs.Numbers.{Crew}
 use Rattle.block.specs.Fields.{field}
-use Rattle.block.proofs.Chunks.{blocks_served, any_block}
+use Rattle.block.proofs.Roads.{any_of}
+use Rattle.block.proofs.Chunks.{blocks_given, blocks_served}
 use Rattle.layout.specs.PointBlock.{form_1, decode_stored}
 use Rattle.store.proofs.Lent.{own_is_crew}
 use Rattle.arriving.specs.Sent.{points_in}
@@ -30,6 +31,6 @@ any-requires-clause-callable c =
 pub returns : goal.returns
 unfolding decode_stored
 returns c =
-    any_block (decode_stored form_1) c.args.points.now c.chunks_exact.ensures.rest c.chunks_exact.ensures.size (λ p. above c.own_of-own.result c.row_at-ours.result.base p.object)
+    any_of (blocks_given (decode_stored form_1) c.args.points.now c.chunks_exact.ensures.rest c.chunks_exact.ensures.size) (λ p. above c.own_of-own.result c.row_at-ours.result.base p.object)
     c.any.ensures.ran (λ x b q k. search rules)
     ∙ λ i. some? (λ p. above_lent c.args.image.now c.requires.0 c.own_of-own.result c.own_of-own.ensures c.row_at-ours.result c.row_at-ours.ensures p.object i) (points_in c.args.points.now)

@@ -3,7 +3,8 @@ use mathlib.Core.Path.{sym, subst}
 use Rattle.std.proofs.Common.{rules}
 use Rattle.numbers.specs.Words.{some?}
 use Rattle.block.specs.Block.{Laid}
-use Rattle.block.proofs.Chunks.{blocks_served, any_block}
+use Rattle.block.proofs.Roads.{any_of}
+use Rattle.block.proofs.Chunks.{blocks_given, blocks_served}
 use Rattle.meaning.specs.Exchange.{clashes}
 use Rattle.layout.specs.PointBlock.{form_1, decode_stored}
 use Rattle.layout.specs.Image.{decode}
@@ -18,5 +19,5 @@ any-requires-clause-callable c =
 pub returns : goal.returns
 unfolding decode_stored
 returns c =
-    any_block (decode_stored form_1) c.args.points.now c.chunks_exact.ensures.rest c.chunks_exact.ensures.size (λ p. some? (clashes (decode c.args.image.now) p.key) p.object.versions)
+    any_of (blocks_given (decode_stored form_1) c.args.points.now c.chunks_exact.ensures.rest c.chunks_exact.ensures.size) (λ p. some? (clashes (decode c.args.image.now) p.key) p.object.versions)
     c.any.ensures.ran (λ x b q k. search rules)

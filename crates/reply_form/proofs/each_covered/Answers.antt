@@ -1,11 +1,12 @@
--- `reply_form::each_covered` meets its contract. Each point's block is asked (Chunks); a well-formed one names controllers (Loops). Assumes nothing.
+-- `reply_form::each_covered` meets its contract. Each point's block is asked (block's Chunks); a well-formed one names controllers (Loops). Assumes nothing.
 use Prim.Native.Nat.{ℕ, ◌≤◌}
 use mathlib.Core.Path.{◌≡◌, sym, subst}
 use mathlib.Core.Bool.{true}
 use mathlib.Core.List.{List}
 use Rattle.std.proofs.Common.{rules}
 use Rattle.block.specs.Fields.{field}
-use Rattle.block.proofs.Chunks.{blocks_served, all_blocks}
+use Rattle.block.proofs.Roads.{all_of}
+use Rattle.block.proofs.Chunks.{blocks_given, blocks_served}
 use Rattle.meaning.specs.Context.{fill_context}
 use Rattle.meaning.specs.Message.{covers_all}
 use Rattle.layout.specs.Clocks.{decode_clock}
@@ -25,5 +26,5 @@ all-requires-clause-callable c =
 pub returns : goal.returns
 unfolding decode_stored
 returns c =
-    all_blocks (decode_stored form_1) c.args.points.now c.chunks_exact.ensures.rest c.chunks_exact.ensures.size (λ p. covers_all (fill_context c.args.table.now p.key.job (decode_clock c.args.rows.now) p.object.context) p.object.versions)
+    all_of (blocks_given (decode_stored form_1) c.args.points.now c.chunks_exact.ensures.rest c.chunks_exact.ensures.size) (λ p. covers_all (fill_context c.args.table.now p.key.job (decode_clock c.args.rows.now) p.object.context) p.object.versions)
     c.all.ensures.ran (λ x b q k. search rules)
