@@ -86,10 +86,8 @@ fn next_in_point(
     let k = record::key_of(b);
     let many = record::version_count(b) as usize;
     let mut best = start;
-    let mut i: usize = 0;
-    while i < many {
+    for i in 0..many {
         best = with_dot(image, count, k, record::version_dot(b, i), last, best);
-        i += 1;
     }
     best
 }
@@ -102,11 +100,9 @@ fn next_new(image: &[u8], count: usize, points: &[u8], last: Dot) -> Option<(Dot
 {
     let many = points.len() / 512;
     let mut best = None;
-    let mut j: usize = 0;
-    while j < many {
+    for j in 0..many {
         let at = 512 * j;
         best = next_in_point(image, count, &points[at..at + 512], last, best);
-        j += 1;
     }
     best
 }
@@ -135,14 +131,13 @@ pub fn list_new(image: &mut [u8], count: usize, points: &[u8])
         who: Controller(0),
         count: Counter(0),
     };
-    let mut listed = dots::entry_count(&image[1024..1536]) as usize;
-    while listed < 60 {
+    let before = dots::entry_count(&image[1024..1536]) as usize;
+    for listed in before..60 {
         match next_new(image, count, points, last) {
             None => return,
             Some((d, k)) => {
                 list_dot(image, d, k);
                 last = d;
-                listed += 1;
             }
         }
     }

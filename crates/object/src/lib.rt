@@ -160,8 +160,7 @@ pub fn find_version(b: &[u8], d: Dot) -> Result<usize, usize>
     ensures { VersionIn (decode_point form_1 b.now).object.versions d result }
 {
     let count = record::version_count(b) as usize;
-    let mut i: usize = 0;
-    while i < count {
+    for i in 0..count {
         let v = record::version_dot(b, i);
         if d.before(v) {
             return Err(i);
@@ -169,9 +168,8 @@ pub fn find_version(b: &[u8], d: Dot) -> Result<usize, usize>
         if !v.before(d) {
             return Ok(i);
         }
-        i += 1;
     }
-    Err(i)
+    Err(count)
 }
 
 // A slot alone: "controller, length (255 = deleted), two zero bytes, counter (4)".

@@ -152,10 +152,8 @@ fn smallest_after(
 {
     let count = dots::entry_count(list) as usize;
     let mut best = start;
-    let mut i: usize = 0;
-    while i < count {
+    for i in 0..count {
         best = with_entry(list, i, table, asker, rows, last, best);
-        i += 1;
     }
     best
 }
@@ -207,17 +205,13 @@ fn write_points(image: &[u8], message: &[u8], out: &mut [u8]) -> u16
         point: Point(0),
     };
     let mut sent: usize = 0;
-    loop {
-        match next_key(image, message, last) {
-            None => return sent as u16,
-            Some(k) => {
-                let at = 512 + 512 * sent;
-                write_point(image, count, k, (1 + sent) as u16, &mut out[at..at + 512]);
-                last = k;
-                sent += 1;
-            }
-        }
+    while let Some(k) = next_key(image, message, last) {
+        let at = 512 + 512 * sent;
+        write_point(image, count, k, (1 + sent) as u16, &mut out[at..at + 512]);
+        last = k;
+        sent += 1;
     }
+    sent as u16
 }
 
 // "A reply is its head, then kind 3 blocks": how many points were sent.

@@ -11,7 +11,7 @@ use Rattle.noting.proofs.Rounds.{foreign_count, none_listed, fresh_crew, same_po
 use Rattle.noting.proofs.list_new.Goals as goal
 
 pub loop-listed-init : goal.loop-listed-init
-loop-listed-init c = none_listed (decode c.args.image.now) (good_now c.args.image.now c.requires.1) (points_in c.args.points.now) (fresh_crew (decode c.args.image.now) c.args.points.now c.requires.4) c.args.image.now c.entry_count-listed.result c.requires.0 (good_canonical c.args.image.now c.requires.1) refl (c.entry_count-listed.ensures ∙ foreign_count c.args.image.now (bytes_of c.args.image.now c.slice_known-1.given) c.requires.0 (good_canonical c.args.image.now c.requires.1))
+loop-listed-init c = none_listed (decode c.args.image.now) (good_now c.args.image.now c.requires.1) (points_in c.args.points.now) (fresh_crew (decode c.args.image.now) c.args.points.now c.requires.4) c.args.image.now c.entry_count-before.result c.requires.0 (good_canonical c.args.image.now c.requires.1) refl (c.entry_count-before.ensures ∙ foreign_count c.args.image.now (bytes_of c.args.image.now c.slice_known-1.given) c.requires.0 (good_canonical c.args.image.now c.requires.1))
 
 pub next_new-requires : goal.next_new-requires
 next_new-requires c = (c.loop-listed.invariant.size, c.loop-listed.invariant.canonical, c.requires.2 ∙ ap length (sym (same_points (decode c.args.image.now) (good_now c.args.image.now c.requires.1) (points_in c.args.points.now) c.loop-listed.last c.loop-listed.listed c.loop-listed.image c.loop-listed.invariant)), still_ascend (decode c.args.image.now) (good_now c.args.image.now c.requires.1) (points_in c.args.points.now) c.loop-listed.last c.loop-listed.listed c.loop-listed.image c.loop-listed.invariant, c.requires.3, c.requires.4)

@@ -7,6 +7,3 @@ use Rattle.noting.proofs.list_new.Given as goal
 
 abbrev pub invariant-loop-listed : goal.invariant-loop-listed
 invariant-loop-listed l = Listing (decode l.initial.image) (points_in l.points) l.last l.listed l.image
-
-abbrev pub decreases-loop-listed : goal.decreases-loop-listed
-decreases-loop-listed l = 60 - l.listed

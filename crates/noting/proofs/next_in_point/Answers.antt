@@ -17,13 +17,13 @@ pub loop-i-init : goal.loop-i-init
 loop-i-init c = none_folded (look_at (decode c.args.image.now) c.key_of-k.result c.args.last) (field c.args.b.now 5 1) (version_at c.args.b.now) c.args.start
 
 pub version_dot-requires : goal.version_dot-requires
-version_dot-requires c = (c.requires.4, omega (arith, c.version_count-many.ensures, c.loop-i-test.true, c.requires.5))
+version_dot-requires c = (c.requires.4, omega (arith, c.version_count-many.ensures, c.requires.5))
 
 pub with_dot-best-requires : goal.with_dot-best-requires
-with_dot-best-requires c = (c.requires.0, c.requires.1, c.requires.2, c.requires.3, subst (λ (d : Dot). Crew d.who) (sym c.version_dot.ensures) (crewed_at c.args.b.now c.requires.5 c.version_count-many.ensures c.requires.6 c.loop-i.i c.loop-i-test.true))
+with_dot-best-requires c = (c.requires.0, c.requires.1, c.requires.2, c.requires.3, subst (λ (d : Dot). Crew d.who) (sym c.version_dot.ensures) (crewed_at c.args.b.now c.requires.5 c.version_count-many.ensures c.requires.6 c.loop-i.i (omega arith)))
 
 pub loop-i-preserved : goal.loop-i-preserved
-loop-i-preserved c = folded_more c.loop-i.invariant (omega (arith, c.version_count-many.ensures, c.loop-i-test.true)) _ (c.with_dot-best.ensures ∙ ap (with_new (decode c.args.image.now) c.key_of-k.result c.args.last c.loop-i.best) c.version_dot.ensures)
+loop-i-preserved c = folded_more c.loop-i.invariant (omega (arith, c.version_count-many.ensures)) _ (c.with_dot-best.ensures ∙ ap (with_new (decode c.args.image.now) c.key_of-k.result c.args.last c.loop-i.best) c.version_dot.ensures)
 
 pub returns : goal.returns
-returns c = point_looked (decode c.args.image.now) c.args.b.now c.requires.5 c.args.last c.args.start c.loop-i.best c.key_of-k.result c.key_of-k.ensures (folded_all c.loop-i.invariant (omega (arith, c.version_count-many.ensures, c.loop-i-test.false)))
+returns c = point_looked (decode c.args.image.now) c.args.b.now c.requires.5 c.args.last c.args.start c.loop-i.best c.key_of-k.result c.key_of-k.ensures (folded_all c.loop-i.invariant (omega (arith, c.version_count-many.ensures)))

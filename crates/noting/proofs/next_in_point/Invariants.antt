@@ -9,6 +9,3 @@ use Rattle.noting.proofs.next_in_point.Given as goal
 
 abbrev pub invariant-loop-i : goal.invariant-loop-i
 invariant-loop-i l = Folded (look_at (decode l.image) l.k l.last) (field l.b 5 1) (version_at l.b) l.initial.best l.i l.best
-
-abbrev pub decreases-loop-i : goal.decreases-loop-i
-decreases-loop-i l = l.many - l.i

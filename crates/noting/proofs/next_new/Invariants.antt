@@ -10,6 +10,3 @@ use Rattle.noting.proofs.next_new.Given as goal
 
 abbrev pub invariant-loop-j : goal.invariant-loop-j
 invariant-loop-j l = Folded (look_into (decode l.image) l.last) (length l.points / 512) (λ i. decode_stored form_1 (block_at l.points i)) l.initial.best l.j l.best
-
-abbrev pub decreases-loop-j : goal.decreases-loop-j
-decreases-loop-j l = l.many - l.j

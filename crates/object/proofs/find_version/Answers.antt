@@ -1,4 +1,8 @@
 -- `object::find_version` meets its contract. The invariant: the versions before i come before the dot (block Search, from i to the end). Assumes nothing.
+use Rattle.std.proofs.Common.{ℕ, ◌≡◌, Err}
+use mathlib.Core.Path.{subst}
+use Rattle.layout.specs.PointBlock.{form_1, decode_point}
+use Rattle.object.specs.Versions.{VersionIn}
 use borrow.Author.Rules.{rules}
 use Prim.Native.Nat.{◌-◌}
 use mathlib.Core.Path.{refl, ap, sym, ◌∙◌}
@@ -37,4 +41,6 @@ loop-i-preserved c = let a = c.args in
 
 pub returns : goal.returns
 returns c = let a = c.args in
-    version_nowhere a.b.now (search rules) a.d c.loop-i.invariant (omega (arith, c.version_count-count.ensures))
+    let end : ◌≡◌ c.loop-i.i c.version_count-count.result = omega arith in
+    subst (λ (n : ℕ). VersionIn (decode_point form_1 a.b.now).object.versions a.d (Err n)) end
+    (version_nowhere a.b.now (search rules) a.d c.loop-i.invariant (omega (arith, c.version_count-count.ensures)))

@@ -8,6 +8,3 @@ use Rattle.object.proofs.find_version.Given as goal
 
 abbrev pub invariant-loop-i : goal.invariant-loop-i
 invariant-loop-i l = Between dot_before (field l.b 5 1) (λ j. (version_at l.b j).dot) l.d l.i (field l.b 5 1)
-
-abbrev pub decreases-loop-i : goal.decreases-loop-i
-decreases-loop-i l = l.count - l.i

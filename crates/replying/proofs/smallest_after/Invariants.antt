@@ -9,6 +9,3 @@ use Rattle.replying.proofs.smallest_after.Given as goal
 
 abbrev pub invariant-loop-i : goal.invariant-loop-i
 invariant-loop-i l = Looked (lacks l.table l.asker (decode_clock l.rows)) l.last (field l.list 4 2) (entry l.list) l.initial.best l.best l.i
-
-abbrev pub decreases-loop-i : goal.decreases-loop-i
-decreases-loop-i l = l.count - l.i

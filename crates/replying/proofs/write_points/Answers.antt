@@ -15,11 +15,11 @@ loop-k-init c = none_sent (decode c.args.image.now) (decode_ask c.args.message.n
 pub overflow_cast-result : goal.overflow_cast-result
 overflow_cast-result c = omega (arith, fits_still (decode c.args.image.now) (decode_ask c.args.message.now) (good_now c.args.image.now c.requires.1) c.args.out.now c.requires.4 c.loop-k.last c.loop-k.sent c.loop-k.out c.loop-k.invariant)
 
-pub shape_of-out-in-None : goal.shape_of-out-in-None
-shape_of-out-in-None c = as_long (decode c.args.image.now) (decode_ask c.args.message.now) (good_now c.args.image.now c.requires.1) c.args.out.now c.requires.4 c.loop-k.last c.loop-k.sent c.loop-k.out c.loop-k.invariant
+pub shape_of-out : goal.shape_of-out
+shape_of-out c = as_long (decode c.args.image.now) (decode_ask c.args.message.now) (good_now c.args.image.now c.requires.1) c.args.out.now c.requires.4 c.loop-k.last c.loop-k.sent c.loop-k.out c.loop-k.invariant
 
-pub returns-in-None : goal.returns-in-None
-returns-in-None c = ends (decode c.args.image.now) (decode_ask c.args.message.now) (good_now c.args.image.now c.requires.1) c.args.out.now c.requires.4 c.loop-k.last c.loop-k.sent c.loop-k.out c.loop-k.invariant c.next_key.result c.next_key.ensures c.in-None.is
+pub returns : goal.returns
+returns c = ends (decode c.args.image.now) (decode_ask c.args.message.now) (good_now c.args.image.now c.requires.1) c.args.out.now c.requires.4 c.loop-k.last c.loop-k.sent c.loop-k.out c.loop-k.invariant c.next_key.result c.next_key.ensures (search rules)
 
 pub overflow_mul-at : goal.overflow_mul-at
 overflow_mul-at c = omega (arith, c.requires.4, one_fits (decode c.args.image.now) (decode_ask c.args.message.now) (good_now c.args.image.now c.requires.1) c.args.out.now c.requires.4 c.loop-k.last c.loop-k.sent c.loop-k.out c.loop-k.invariant c.next_key.result c.next_key.ensures c.in-Some.k c.in-Some.is, as_long (decode c.args.image.now) (decode_ask c.args.message.now) (good_now c.args.image.now c.requires.1) c.args.out.now c.requires.4 c.loop-k.last c.loop-k.sent c.loop-k.out c.loop-k.invariant)
