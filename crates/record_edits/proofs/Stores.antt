@@ -1,5 +1,5 @@
 -- A slot and an empty point block, by the stores that make them. Assumes nothing.
-use Prim.Native.Nat.{ℕ, ◌+◌, ◌-◌, ◌≤◌}
+use Prim.Native.Nat.{ℕ, ◌-◌, ◌≤◌}
 use mathlib.Core.Path.{◌≡◌, ap, ◌∙◌}
 use mathlib.Core.List.{List, ◌++◌}
 use lib.ListN.{length, take}
@@ -19,10 +19,10 @@ use Rattle.layout.specs.PointBlock.{form_1, encode_slot, encode_context, encode_
 abbrev opened : Dot → ℕ → List ℕ → List ℕ
 opened d n l = le 1 d.who.0 ++ (le 1 n ++ (le 2 0 ++ (le 4 d.count.0 ++ l)))
 
-module _ (s s1 s2 s3 s4 : List ℕ) (d : Dot) (n : ℕ) (size : length s ≡ 32) (p1 : s1 ≡ splice s 0 32 (zeros 32)) (p2 : s2 ≡ splice s1 0 1 (le 1 d.who.0)) (p3 : s3 ≡ splice s2 1 1 (le 1 n)) (p4 : s4 ≡ splice s3 4 4 (le 4 d.count.0)) where
+module _ (s s1 s2 s3 s4 : List ℕ) (d : Dot) (n : ℕ) (size : length s ≡ 32) (p1 : s1 ≡ splice s 0 32 (zeros 32)) (p2 : s2 ≡ splice s1 0 1 (le 1 d.who.0)) (p3 : s3 ≡ splice s2 4 4 (le 4 d.count.0)) (p4 : s4 ≡ splice s3 1 1 (le 1 n)) where
   opened_is : s4 ≡ opened d n (zeros 24)
   unfolding le
-  opened_is = p4 ∙ ap (λ (z : List ℕ). splice z 4 4 (le 4 d.count.0)) (p3 ∙ ap (λ (z : List ℕ). splice z 1 1 (le 1 n)) (p2 ∙ ap (λ (z : List ℕ). splice z 0 1 (le 1 d.who.0)) (p1 ∙ cleared s 32 size)))
+  opened_is = p4 ∙ ap (λ (z : List ℕ). splice z 1 1 (le 1 n)) (p3 ∙ ap (λ (z : List ℕ). splice z 4 4 (le 4 d.count.0)) (p2 ∙ ap (λ (z : List ℕ). splice z 0 1 (le 1 d.who.0)) (p1 ∙ cleared s 32 size)))
 
   pub deleted_made : n ≡ 255 → s4 ≡ encode_slot form_1 (record { dot = d; contents = deleted })
   unfolding encode_slot pad

@@ -3,7 +3,6 @@ use Rattle.std.specs.Prelude.{ℕ, ◌-◌, List}
 use Rattle.numbers.specs.declared.Controller.{Controller}
 use Rattle.numbers.specs.declared.Counter.{Counter}
 use Rattle.block.specs.Fields.{field, put_at}
-use Rattle.meaning.specs.Context.{Context}
 use Rattle.meaning.specs.Object.{Version, Object}
 use Rattle.meaning.specs.Message.{Outgoing}
 use Rattle.layout.specs.PointBlock.{form_1, encode_point, decode_point}

@@ -1,13 +1,14 @@
 // A point block, stored or sent, edited in the lent bytes, and a version in hand.
 #![tactic(auto)]
 
-ghost use Rattle.std.specs.Prelude.{◌≡◌, ◌+◌, ◌-◌, ◌*◌, ◌≤◌, ◌<◌, length};
+ghost use Rattle.std.specs.Prelude.{◌≡◌, ◌+◌, ◌-◌, ◌*◌, ◌≤◌, ◌<◌, length, IfSome};
 ghost use Rattle.numbers.specs.Numbers.{Crew};
 ghost use Rattle.block.specs.Kind.{kind_number};
 ghost use Rattle.block.specs.Fields.{insert_at, remove_at};
 ghost use Rattle.block.specs.Block.{Laid};
-ghost use Rattle.meaning.specs.Object.{value, deleted, no_object};
+ghost use Rattle.meaning.specs.Object.{no_object};
 ghost use Rattle.layout.specs.PointBlock.{form_1, encode_slot, decode_slot, encode_point, decode_point, encode_stored, decode_stored};
+ghost use Rattle.record_edits.specs.Said.{contents_of};
 ghost use Rattle.record_edits.specs.Written.{lay_point, point_block, with_versions, put_entry, relabelled};
 
 use block::Kind;
@@ -15,27 +16,21 @@ use numbers::{Controller, Counter, Dot, Key};
 
 // ---- a version in hand: 32 bytes as they stand in a slot
 
-// A version with a value.
-pub fn make_slot(slot: &mut [u8], d: Dot, said: &[u8])
-    requires { (length slot.old ≡ 32) × (length said.now ≤ 24) }
-    ensures { slot.new ≡ encode_slot form_1 (record { dot = d; contents = value said.now }) }
+// A version with the value that is said, or a deletion.
+pub fn make_slot(slot: &mut [u8], d: Dot, said: Option<&[u8]>)
+    requires { (length slot.old ≡ 32) × IfSome said (λ v. length v.now ≤ 24) }
+    ensures { slot.new ≡ encode_slot form_1 (record { dot = d; contents = contents_of said.entry }) }
 {
     block::clear(slot, 0, 32);
     block::put_u8(slot, 0, d.who.0);
-    block::put_u8(slot, 1, said.len() as u8);
     block::put_u32(slot, 4, d.count.0);
-    block::copy_in(slot, 8, said);
-}
-
-// A deletion.
-pub fn make_deleted_slot(slot: &mut [u8], d: Dot)
-    requires { length slot.old ≡ 32 }
-    ensures { slot.new ≡ encode_slot form_1 (record { dot = d; contents = deleted }) }
-{
-    block::clear(slot, 0, 32);
-    block::put_u8(slot, 0, d.who.0);
-    block::put_u8(slot, 1, 255);
-    block::put_u32(slot, 4, d.count.0);
+    match said {
+        Some(value) => {
+            block::put_u8(slot, 1, value.len() as u8);
+            block::copy_in(slot, 8, value);
+        }
+        None => block::put_u8(slot, 1, 255),
+    }
 }
 
 // ---- edits of a point block: it says something else and is laid out still, but for its check, which is made after the last of them

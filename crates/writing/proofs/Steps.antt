@@ -1,15 +1,15 @@
 -- The steps write and delete, case by case, and the new version's slot. Assumes nothing.
-use Prim.Native.Nat.{ℕ, ◌≤◌, ◌<◌}
+use Prim.Native.Nat.{ℕ, ◌≤◌, ◌<◌, ◌^◌}
 use mathlib.Core.Path.{◌≡◌, refl, ap, sym, ◌∙◌}
-use mathlib.Core.Bool.{true, false}
+use mathlib.Core.Bool.{true}
 use mathlib.Core.List.{List, [], ◌∷◌}
 use native.Mathlib.Omega.{arith}
 use lib.ListN.{length}
 use lib.Dec.{leb, ltb}
-use borrow.Author.Tests.{le-leb, lt-ltb, le-ltb}
+use borrow.Author.Tests.{leb-true, le-leb, lt-ltb, le-ltb}
 use Rattle.numbers.specs.declared.Key.{Key}
 use Rattle.numbers.specs.Words.{all?}
-use Rattle.numbers.proofs.Tests.{and_both}
+use Rattle.numbers.proofs.Tests.{and_both, and_left}
 use Rattle.numbers.proofs.Lists.{in_all}
 use Rattle.refusal.specs.declared.Refusal.{Refusal}
 use Rattle.refusal.specs.declared.Refusal.TheVariants.{ValueTooLong}
@@ -33,7 +33,10 @@ use Rattle.writing.specs.LeftBy.{left_by}
 use Rattle.writing.proofs.PutDown.{put_down_judged}
 use Rattle.writing.proofs.Accepted.{judged_refused}
 use Rattle.writing.proofs.Down.{held_here, put_down_done}
-use Rattle.std.specs.Prelude.{Ok, Err}
+use Rattle.std.specs.Prelude.{Ok, Err, Option, Some, None, is_some, IfSome}
+use Rattle.std.specs.Borrow.{Bor}
+use Rattle.numbers.specs.declared.Dot.{Dot}
+use Rattle.record_edits.specs.Said.{contents_of}
 
 -- ---- what is left
 
@@ -59,34 +62,46 @@ module _ (img out : List ℕ) (a : Answer Done) where
 
 -- ---- case by case
 
-module _ (s : State) (G : Good s) (k : Key) (c : Context) (mine : ours s k ≡ true) (img out : List ℕ) where
-  module _ (b : Contents) where
-    down_refused : (r : Refusal) → verdict_of (judged s k (has_value b) c true) ≡ Err r → put_down s k b c ≡ refused r
-    down_refused r e = put_down_judged s G k b c (held_here s k mine) ∙ judged_refused s k (has_value b) c _ r e
+module _ (s : State) (k : Key) (c : Context) (mine : ours s k ≡ true) where
+  module _ (img out : List ℕ) where
+    pub write_long : (v : List ℕ) → longest_value < length v → afterwards img out (left_by (write s k v c)) ≡ untouched ValueTooLong img out
+    write_long v h = left_refused img out (write s k v c) ValueTooLong (unfold write refuse◌when◌else◌ in (rw (mine, lt-ltb longest_value (length v) h)))
 
-  pub write_long : (v : List ℕ) → longest_value < length v → afterwards img out (left_by (write s k v c)) ≡ untouched ValueTooLong img out
-  write_long v h = left_refused img out (write s k v c) ValueTooLong (unfold write refuse◌when◌else◌ in (rw (mine, lt-ltb longest_value (length v) h)))
+  pub goes_on : (v : List ℕ) → length v ≤ longest_value → write s k v c ≡ put_down s k (value v) c
+  unfolding write refuse◌when◌else◌
+  goes_on v short = rw (mine, le-ltb longest_value (length v) short)
 
-  module _ (v : List ℕ) (short : length v ≤ longest_value) where
-    goes_on : write s k v c ≡ put_down s k (value v) c
-    unfolding write refuse◌when◌else◌
-    goes_on = rw (mine, le-ltb longest_value (length v) short)
-
-    pub write_refused : (r : Refusal) → verdict_of (judged s k true c true) ≡ Err r → afterwards img out (left_by (write s k v c)) ≡ untouched r img out
-    write_refused r e = left_refused img out (write s k v c) r (goes_on ∙ down_refused (value v) r e)
-
-    pub write_made : verdict_of (judged s k true c true) ≡ Ok tt → afterwards img out (left_by (write s k v c)) ≡ made s k (value v) c
-    write_made e = left_done img out (write s k v c) s k (value v) c (goes_on ∙ put_down_done s G k (value v) c mine e)
-
-  deletes : delete s k c ≡ put_down s k deleted c
+  pub deletes : delete s k c ≡ put_down s k deleted c
   unfolding delete refuse◌when◌else◌
   deletes = rw mine
 
-  pub delete_refused : (r : Refusal) → verdict_of (judged s k false c true) ≡ Err r → afterwards img out (left_by (delete s k c)) ≡ untouched r img out
-  delete_refused r e = left_refused img out (delete s k c) r (deletes ∙ down_refused deleted r e)
+  module _ (G : Good s) (b : Contents) where
+    down_refused : (r : Refusal) → verdict_of (judged s k (has_value b) c true) ≡ Err r → put_down s k b c ≡ refused r
+    down_refused r e = put_down_judged s G k b c (held_here s k mine) ∙ judged_refused s k (has_value b) c _ r e
 
-  pub delete_made : verdict_of (judged s k false c true) ≡ Ok tt → afterwards img out (left_by (delete s k c)) ≡ made s k deleted c
-  delete_made e = left_done img out (delete s k c) s k deleted c (deletes ∙ put_down_done s G k deleted c mine e)
+    module _ (img out : List ℕ) where
+      pub refused_so : (r : Refusal) → verdict_of (judged s k (has_value b) c true) ≡ Err r → afterwards img out (left_by (put_down s k b c)) ≡ untouched r img out
+      refused_so r e = left_refused img out (put_down s k b c) r (down_refused r e)
+
+      pub made_so : verdict_of (judged s k (has_value b) c true) ≡ Ok tt → afterwards img out (left_by (put_down s k b c)) ≡ made s k b c
+      made_so e = left_done img out (put_down s k b c) s k b c (put_down_done s G k b c mine e)
+
+-- ---- a value or a deletion, as it is lent
+
+-- a value is said where one is lent
+pub says_value : (o : Option (Bor (List ℕ))) → has_value (contents_of o) ≡ is_some o
+says_value (Some v) = refl
+says_value None = refl
+
+-- what is well-formed fits into a slot
+pub said_short : (o : Option (Bor (List ℕ))) → contents_formed (contents_of o) ≡ true → IfSome o (λ v. length v.now ≤ longest_value)
+unfolding contents_formed
+said_short (Some v) h = leb-true (length v.now) longest_value (and_left (leb (length v.now) longest_value) (all? (λ b. ltb b 256) v.now) h)
+said_short None h = tt
+
+pub said_sized : (d : Dot) (o : Option (Bor (List ℕ))) → d.who.0 < 256 → d.count.0 < 256 ^ 4 → contents_formed (contents_of o) ≡ true → SlotSized form_1 (record { dot = d; contents = contents_of o })
+said_sized d (Some v) who count h = record { who = who; count = count; said = said_short (Some v) h }
+said_sized d None who count h = record { who = who; count = count; said = omega arith }
 
 -- ---- the slot
 

@@ -7,16 +7,17 @@ ghost use Rattle.numbers.specs.Numbers.{counter, last_counter};
 ghost use Rattle.block.specs.Fields.{field};
 ghost use Rattle.block.specs.Block.{Laid};
 ghost use Rattle.meaning.specs.CrewTable.{holds};
-ghost use Rattle.meaning.specs.Message.{most_versions, contents_formed, longest_value};
-ghost use Rattle.meaning.specs.Object.{value, deleted, has_value};
+ghost use Rattle.meaning.specs.Message.{most_versions, contents_formed};
+ghost use Rattle.meaning.specs.Object.{has_value};
 ghost use Rattle.meaning.specs.State.{own_base, look_up};
 ghost use Rattle.meaning.specs.Settle.{most_points, most_listed, put, settled};
-ghost use Rattle.meaning.specs.OwnSteps.{ours, next_dot, written, write, delete};
+ghost use Rattle.meaning.specs.OwnSteps.{ours, next_dot, written, put_down, write, delete};
 ghost use Rattle.layout.specs.PointBlock.{form_1, encode_slot, decode_slot, decode_point, decode_stored};
 ghost use Rattle.layout.specs.Image.{image_length, encode, decode, good_image};
 ghost use Rattle.layout.specs.Messages.{encode_outgoing};
 ghost use Rattle.layout.specs.Calls.{afterwards};
 ghost use Rattle.record.specs.Crewed.{crewed};
+ghost use Rattle.record_edits.specs.Said.{contents_of};
 ghost use Rattle.record_edits.specs.Written.{lay_point, point_block};
 ghost use Rattle.refusal.specs.Refusal.{verdict_of};
 ghost use Rattle.store.specs.HasRecord.{has_record};
@@ -186,12 +187,12 @@ fn put_down(image: &mut [u8], k: Key, d: Dot, slot: &[u8], context: &[u32], out:
     keep_written(image, d, out);
 }
 
-// A value that was judged.
-fn put_value(image: &mut [u8], k: Key, said: &[u8], context: &[u32], out: &mut [u8])
-    requires { (length image.old ≡ image_length) × (good_image image.old ≡ true) × (ours (decode image.old) k ≡ true) × (length said.now ≤ longest_value)
-        × (length context.now ≡ 8) × (verdict_of (judged (decode image.old) k true (map counter context.now) true) ≡ Ok tt) × (length out.old ≡ 512) }
-    ensures { (image.new ≡ encode (settled (decode image.old) (decode image.old).clock (record { key = k; object = written (decode image.old) k (value said.now) (map counter context.now) } ∷ [])))
-        × (out.new ≡ encode_outgoing (record { sender = (decode image.old).own; key = k; object = written (decode image.old) k (value said.now) (map counter context.now) })) }
+// A value or a deletion that was judged.
+fn put_said(image: &mut [u8], k: Key, said: Option<&[u8]>, context: &[u32], out: &mut [u8])
+    requires { (length image.old ≡ image_length) × (good_image image.old ≡ true) × (ours (decode image.old) k ≡ true) × (contents_formed (contents_of said) ≡ true)
+        × (length context.now ≡ 8) × (verdict_of (judged (decode image.old) k (has_value (contents_of said)) (map counter context.now) true) ≡ Ok tt) × (length out.old ≡ 512) }
+    ensures { (image.new ≡ encode (settled (decode image.old) (decode image.old).clock (record { key = k; object = written (decode image.old) k (contents_of said.entry) (map counter context.now) } ∷ [])))
+        × (out.new ≡ encode_outgoing (record { sender = (decode image.old).own; key = k; object = written (decode image.old) k (contents_of said.entry) (map counter context.now) })) }
 {
     let d = next_dot(image);
     let mut slot: [u8; 32] = [0; 32];
@@ -199,17 +200,22 @@ fn put_value(image: &mut [u8], k: Key, said: &[u8], context: &[u32], out: &mut [
     put_down(image, k, d, &slot, context, out);
 }
 
-// A deletion that was judged.
-fn put_deletion(image: &mut [u8], k: Key, context: &[u32], out: &mut [u8])
-    requires { (length image.old ≡ image_length) × (good_image image.old ≡ true) × (ours (decode image.old) k ≡ true)
-        × (length context.now ≡ 8) × (verdict_of (judged (decode image.old) k false (map counter context.now) true) ≡ Ok tt) × (length out.old ≡ 512) }
-    ensures { (image.new ≡ encode (settled (decode image.old) (decode image.old).clock (record { key = k; object = written (decode image.old) k deleted (map counter context.now) } ∷ [])))
-        × (out.new ≡ encode_outgoing (record { sender = (decode image.old).own; key = k; object = written (decode image.old) k deleted (map counter context.now) })) }
+// What a write and a delete have in common: the first refusal from 8 on, or the value or the deletion is put down.
+fn write_or_delete(
+    image: &mut [u8],
+    k: Key,
+    said: Option<&[u8]>,
+    context: &[u32],
+    out: &mut [u8],
+) -> Result<(), Refusal>
+    requires { (length image.old ≡ image_length) × (good_image image.old ≡ true) × (ours (decode image.old) k ≡ true) × (contents_formed (contents_of said) ≡ true) × (length context.now ≡ 8) × (length out.old ≡ 512) }
+    ensures { (result ≡ (afterwards image.old out.old (left_by (put_down (decode image.old) k (contents_of said.entry) (map counter context.now)))).verdict)
+        × (image.new ≡ (afterwards image.old out.old (left_by (put_down (decode image.old) k (contents_of said.entry) (map counter context.now)))).image)
+        × (out.new ≡ (afterwards image.old out.old (left_by (put_down (decode image.old) k (contents_of said.entry) (map counter context.now)))).out) }
 {
-    let d = next_dot(image);
-    let mut slot: [u8; 32] = [0; 32];
-    record_edits::make_deleted_slot(&mut slot, d);
-    put_down(image, k, d, &slot, context, out);
+    judge(image, k, said.is_some(), context)?;
+    put_said(image, k, said, context, out);
+    Ok(())
 }
 
 // ---- the steps, on a good image and a point that is ours
@@ -230,9 +236,7 @@ pub fn write_at(
     if 24 < said.len() {
         return Err(Refusal::ValueTooLong);
     }
-    judge(image, k, true, context)?;
-    put_value(image, k, said, context, out);
-    Ok(())
+    write_or_delete(image, k, Some(said), context, out)
 }
 
 // Delete: what a write and a delete have in common.
@@ -242,7 +246,5 @@ pub fn delete_at(image: &mut [u8], k: Key, context: &[u32], out: &mut [u8]) -> R
         × (image.new ≡ (afterwards image.old out.old (left_by (delete (decode image.old) k (map counter context.now)))).image)
         × (out.new ≡ (afterwards image.old out.old (left_by (delete (decode image.old) k (map counter context.now)))).out) }
 {
-    judge(image, k, false, context)?;
-    put_deletion(image, k, context, out);
-    Ok(())
+    write_or_delete(image, k, None, context, out)
 }

@@ -1,5 +1,4 @@
 -- `record::insert_version` meets its contract. Move, copy, count: the bytes are those of the block with one more version (Edits). Assumes nothing.
-use Prim.Native.Nat.{◌-◌}
 use native.Mathlib.Omega.{arith}
 use Rattle.block.proofs.Numbers.{bytes_of}
 use Rattle.record_edits.proofs.Edits.{count_is, few_versions, version_inserted}

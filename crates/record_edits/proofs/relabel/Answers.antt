@@ -1,5 +1,5 @@
 -- `record::relabel` meets its contract. The bytes are those of the block under its new label (Edits). Assumes nothing.
-use Prim.Native.Nat.{ℕ, ◌-◌}
+use Prim.Native.Nat.{ℕ}
 use native.Mathlib.Omega.{arith}
 use mathlib.Core.Path.{ap, ◌∙◌}
 use Rattle.block.specs.Fields.{le, splice}

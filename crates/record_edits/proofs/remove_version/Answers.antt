@@ -1,5 +1,4 @@
 -- `record::remove_version` meets its contract. Move, clear, count: the bytes are those of the block with one version less (Edits). Assumes nothing.
-use Prim.Native.Nat.{◌-◌}
 use native.Mathlib.Omega.{arith}
 use Rattle.block.proofs.Numbers.{bytes_of}
 use Rattle.record_edits.proofs.Edits.{count_is, few_versions, version_removed}

@@ -1,5 +1,4 @@
 -- `record::set_entry` meets its contract. The bytes are those of the block with that entry (Edits). Assumes nothing.
-use Prim.Native.Nat.{◌-◌}
 use Rattle.block.proofs.Numbers.{bytes_of}
 use Rattle.record_edits.proofs.Edits.{entry_is_put}
 use borrow.Author.Rules.{rules}

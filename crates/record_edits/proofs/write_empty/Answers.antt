@@ -1,5 +1,4 @@
 -- `record::write_empty` meets its contract. Its stores, one by one (Stores). Assumes nothing.
-use Prim.Native.Nat.{◌-◌}
 use mathlib.Core.Path.{refl}
 use Rattle.block.specs.Kind.{kind_number}
 use Rattle.record_edits.proofs.Stores.{empty_made}

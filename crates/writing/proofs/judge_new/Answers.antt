@@ -1,5 +1,4 @@
 -- `writing::judge_new` meets its contract. Rows 8 and 13, and those that ask nothing of the point (Rows, Judges). Assumes nothing.
-use Prim.Native.Nat.{◌-◌}
 use mathlib.Core.Path.{refl, sym, ◌∙◌}
 use Rattle.numbers.specs.Words.{map}
 use Rattle.numbers.specs.Numbers.{counter}

@@ -1,5 +1,4 @@
 -- `writing::judge_own` meets its contract. Rows 14 and 15 (Rows). Assumes nothing.
-use Prim.Native.Nat.{◌-◌}
 use native.Mathlib.Omega.{arith}
 use Rattle.block.proofs.Numbers.{bytes_of}
 use Rattle.layout.specs.Image.{decode}

@@ -1,5 +1,4 @@
 -- `writing::judge_record` meets its contract. Rows 8 and 12, and those that ask nothing of the point (Rows, Judges). Assumes nothing.
-use Prim.Native.Nat.{◌-◌}
 use mathlib.Core.Path.{ap, sym, ◌∙◌}
 use native.Mathlib.Omega.{arith}
 use Rattle.numbers.specs.Words.{map}

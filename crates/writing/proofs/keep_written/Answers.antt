@@ -1,5 +1,4 @@
 -- `writing::keep_written` meets its contract. Edit by edit (Keeping). Assumes nothing.
-use Prim.Native.Nat.{◌-◌}
 use mathlib.Core.Path.{sym, ◌∙◌, subst}
 use native.Mathlib.Omega.{arith}
 use Rattle.numbers.specs.Numbers.{Crew}

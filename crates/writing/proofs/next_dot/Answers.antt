@@ -1,5 +1,5 @@
 -- `writing::next_dot` meets its contract. The own number and one more than the own base. Assumes nothing.
-use Prim.Native.Nat.{ℕ, ◌-◌, ◌+◌}
+use Prim.Native.Nat.{ℕ, ◌+◌}
 use mathlib.Core.Path.{ap₂, ◌∙◌}
 use native.Mathlib.Omega.{arith}
 use Rattle.numbers.specs.declared.Controller.{Controller}

@@ -1,5 +1,4 @@
 -- `writing::put_down` meets its contract. The message, then the record of it (Down). Assumes nothing.
-use Prim.Native.Nat.{◌-◌}
 use native.Mathlib.Omega.{arith}
 use Rattle.numbers.specs.Words.{map}
 use Rattle.numbers.specs.Numbers.{counter}

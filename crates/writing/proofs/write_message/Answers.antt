@@ -1,5 +1,4 @@
 -- `writing::write_message` meets its contract. Block by block (Message). Assumes nothing.
-use Prim.Native.Nat.{◌-◌}
 use mathlib.Core.Path.{sym, subst}
 use native.Mathlib.Omega.{arith}
 use Rattle.numbers.specs.Words.{map}
