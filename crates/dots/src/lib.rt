@@ -13,9 +13,31 @@ ghost use Rattle.layout.specs.Image.{encode_entry, decode_entry, encode_dots, de
 ghost use Rattle.dots.specs.DotsBlock.{lay_dots, dots_block, with_dots};
 ghost use Rattle.dots.specs.DotsGood.{dots_good};
 ghost use Rattle.dots.specs.Entries.{right_list, entry_good, FoundIn};
+ghost use Rattle.dots.specs.Lists.{list_block};
 
 use block::Kind;
 use numbers::{Controller, Counter, Dot, Key, Point};
+
+// The two lists of an image.
+#[derive(Clone, Copy, Debug, PartialEq, Eq)]
+pub enum DotList {
+    // the dots of the controller itself
+    Own,
+    // those of the others
+    Foreign,
+}
+
+impl DotList {
+    // The block that it stands in: the own dots in block 1, the foreign ones in block 2.
+    pub fn block(self) -> usize
+        ensures { (result ≡ list_block self) × (1 ≤ result) × (result ≤ 2) }
+    {
+        match self {
+            DotList::Own => 1,
+            DotList::Foreign => 2,
+        }
+    }
+}
 
 // "4-5 count"
 pub fn entry_count(b: &[u8]) -> u16
