@@ -1,3 +1,4 @@
+pub mod Lists
 pub mod DotsGood
 pub mod Entries
 pub mod DotsBlock

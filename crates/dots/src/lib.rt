@@ -13,9 +13,31 @@ ghost use Rattle.layout.specs.Image.{encode_entry, decode_entry, encode_dots, de
 ghost use Rattle.dots.specs.DotsBlock.{lay_dots, dots_block, with_dots};
 ghost use Rattle.dots.specs.DotsGood.{dots_good};
 ghost use Rattle.dots.specs.Entries.{right_list, entry_good, FoundIn};
+ghost use Rattle.dots.specs.Lists.{list_block, is_own};
 
 use block::Kind;
 use numbers::{Controller, Counter, Dot, Key, Point};
+
+// The two lists of an image.
+#[derive(Clone, Copy, Debug, PartialEq, Eq)]
+pub enum DotList {
+    // the dots of the controller itself
+    Own,
+    // those of the others
+    Foreign,
+}
+
+impl DotList {
+    // The block that it stands in: the own dots in block 1, the foreign ones in block 2.
+    pub fn block(self) -> usize
+        ensures { (result ≡ list_block self) × (1 ≤ result) × (result ≤ 2) }
+    {
+        match self {
+            DotList::Own => 1,
+            DotList::Foreign => 2,
+        }
+    }
+}
 
 // "4-5 count"
 pub fn entry_count(b: &[u8]) -> u16
@@ -71,20 +93,20 @@ pub fn dots_laid_out(b: &[u8], position: u16) -> bool
 }
 
 // "own and foreign dots": the own list holds own dots only, and the foreign list none.
-fn in_its_list(mine: bool, who: Controller, own: Controller) -> bool
-    ensures { result ≡ right_list mine own who }
+fn in_its_list(list: DotList, who: Controller, own: Controller) -> bool
+    ensures { result ≡ right_list (is_own list) own who }
 {
-    if mine {
-        return who == own;
+    match list {
+        DotList::Own => who == own,
+        DotList::Foreign => who != own,
     }
-    who != own
 }
 
 // What is asked of one listed dot: its ranges, "dots name holders of the job", its list, "every listed dot is of a held job" and "listed dots are
 // in the clock".
-pub fn entry_good(d: Dot, k: Key, mine: bool, own: Controller, table: &[u8], rows: &[u8]) -> bool
+pub fn entry_good(d: Dot, k: Key, list: DotList, own: Controller, table: &[u8], rows: &[u8]) -> bool
     requires { Crew own × (length table.now ≡ 8) × (length rows.now ≡ 96) }
-    ensures { result ≡ entry_good mine own table.now (decode_clock rows.now) (record { dot = d; key = k }) }
+    ensures { result ≡ entry_good (is_own list) own table.now (decode_clock rows.now) (record { dot = d; key = k }) }
 {
     let who = d.who.0;
     let job = k.job;
@@ -106,7 +128,7 @@ pub fn entry_good(d: Dot, k: Key, mine: bool, own: Controller, table: &[u8], row
     if !parts::holds(table, d.who, job) {
         return false;
     }
-    if !in_its_list(mine, d.who, own) {
+    if !in_its_list(list, d.who, own) {
         return false;
     }
     if !parts::holds(table, own, job) {
@@ -116,16 +138,16 @@ pub fn entry_good(d: Dot, k: Key, mine: bool, own: Controller, table: &[u8], row
 }
 
 // All clauses of a good state that speak of this list alone. A dot comes after all before it where it comes after the one before it.
-pub fn dots_good(b: &[u8], mine: bool, own: Controller, table: &[u8], rows: &[u8]) -> bool
+pub fn dots_good(b: &[u8], list: DotList, own: Controller, table: &[u8], rows: &[u8]) -> bool
     requires { (length b.now ≡ 512)
         × (field b.now 4 2 ≤ 60)
         × Crew own
         × (length table.now ≡ 8)
         × (length rows.now ≡ 96) }
-    ensures { result ≡ dots_good mine own table.now (decode_clock rows.now) (decode_dots b.now) }
+    ensures { result ≡ dots_good (is_own list) own table.now (decode_clock rows.now) (decode_dots b.now) }
 {
     let n = entry_count(b) as usize;
-    (0..n).all(|i| entry_good(entry_dot(b, i), entry_key(b, i), mine, own, table, rows))
+    (0..n).all(|i| entry_good(entry_dot(b, i), entry_key(b, i), list, own, table, rows))
         && (1..n).all(|i| entry_dot(b, i - 1).before(entry_dot(b, i)))
 }
 

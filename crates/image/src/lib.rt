@@ -14,6 +14,7 @@ ghost use Rattle.image.specs.Parts.{stored_count, stored_laid_out, Few, Ascendin
 ghost use Rattle.image.specs.Places.{PointIn};
 ghost use Rattle.image.specs.Apart.{apart_from_earlier, point_at, dot_listed_for, listed_for, all_apart};
 
+use dots::DotList;
 use numbers::{Controller, Dot, Key};
 
 // The number of stored points: "then points .., then blocks of zeros", so up to the first block of kind 0.
@@ -174,12 +175,18 @@ pub fn parts_good(image: &[u8]) -> bool
         return false;
     }
     let own = head::own_of(&image[0..512]);
-    if !dots::dots_good(&image[512..1024], true, own, &image[8..16], &image[16..112]) {
+    if !dots::dots_good(
+        &image[512..1024],
+        DotList::Own,
+        own,
+        &image[8..16],
+        &image[16..112],
+    ) {
         return false;
     }
     if !dots::dots_good(
         &image[1024..1536],
-        false,
+        DotList::Foreign,
         own,
         &image[8..16],
         &image[16..112],

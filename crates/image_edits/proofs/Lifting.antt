@@ -195,15 +195,18 @@ module _ (img : List ℕ) (small : Bytes img) (size : length img ≡ image_lengt
           there : with_dots (dots_block lent) ms ≡ record { position = k; dots = ms }
           there = ap (λ (n : ℕ). record { position = n; dots = ms }) place
 
-      pub insert_done : (i : ℕ) (l : Listed) → EntrySized l → i ≤ length (list_of (decode img) k) → length (list_of (decode img) k) < 60
-          → (dots_block b ≡ with_dots (dots_block lent) (insert_at (decode_dots lent) i l)) × Laid lay_dots dots_block b → (decode y ≡ with_list (decode img) k (insert_at (list_of (decode img) k) i l)) × Canonical y
-      insert_done i l fits low few edit =
-          list_done (insert_at ls i l) (insert_sized ls i l list_sized fits low few) (edit.0 ∙ ap (λ (us : List Listed). with_dots (dots_block lent) (insert_at us i l)) list_part_says, edit.1)
+      -- the block is that of a list
+      pub insert_done : {n : ℕ} → k ≡ n → (i : ℕ) (l : Listed) → EntrySized l → i ≤ length (list_of (decode img) k) → length (list_of (decode img) k) < 60
+          → (dots_block b ≡ with_dots (dots_block lent) (insert_at (decode_dots lent) i l)) × Laid lay_dots dots_block b → (decode y ≡ with_list (decode img) n (insert_at (list_of (decode img) n) i l)) × Canonical y
+      insert_done q i l fits low few edit =
+          subst (λ (n : ℕ). (decode y ≡ with_list (decode img) n (insert_at (list_of (decode img) n) i l)) × Canonical y) q
+          (list_done (insert_at ls i l) (insert_sized ls i l list_sized fits low few) (edit.0 ∙ ap (λ (us : List Listed). with_dots (dots_block lent) (insert_at us i l)) list_part_says, edit.1))
 
-      pub remove_done : (i : ℕ) → i < length (list_of (decode img) k)
-          → (dots_block b ≡ with_dots (dots_block lent) (remove_at (decode_dots lent) i)) × Laid lay_dots dots_block b → (decode y ≡ with_list (decode img) k (remove_at (list_of (decode img) k) i)) × Canonical y
-      remove_done i low edit =
-          list_done (remove_at ls i) (remove_sized ls i list_sized low) (edit.0 ∙ ap (λ (us : List Listed). with_dots (dots_block lent) (remove_at us i)) list_part_says, edit.1)
+      pub remove_done : {n : ℕ} → k ≡ n → (i : ℕ) → i < length (list_of (decode img) k)
+          → (dots_block b ≡ with_dots (dots_block lent) (remove_at (decode_dots lent) i)) × Laid lay_dots dots_block b → (decode y ≡ with_list (decode img) n (remove_at (list_of (decode img) n) i)) × Canonical y
+      remove_done q i low edit =
+          subst (λ (n : ℕ). (decode y ≡ with_list (decode img) n (remove_at (list_of (decode img) n) i)) × Canonical y) q
+          (list_done (remove_at ls i) (remove_sized ls i list_sized low) (edit.0 ∙ ap (λ (us : List Listed). with_dots (dots_block lent) (remove_at us i)) list_part_says, edit.1))
 
   -- the head edited in its part, and its check made
   module _ (x y b c : List ℕ) (ok : length b ≡ 512) (d : x ≡ take (512 * 0) img ++ (b ++ drop (512 * 0 + 512 - 512 * 0) (drop (512 * 0) img))) (e : c ≡ seal (take 508 (take (512 * 0 + 512 - 512 * 0) (drop (512 * 0) x))))

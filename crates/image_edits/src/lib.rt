@@ -12,9 +12,11 @@ ghost use Rattle.meaning.specs.State.{stored_before, look_up};
 ghost use Rattle.layout.specs.Image.{image_length, head_of, decode};
 ghost use Rattle.head.specs.HeadEdits.{put_row, put_mark};
 ghost use Rattle.record_edits.specs.Written.{lay_point, point_block};
+ghost use Rattle.dots.specs.Lists.{list_block};
 ghost use Rattle.image_edits.specs.Edits.{Canonical, with_head, with_points, list_of, with_list};
 
 use block::Kind;
+use dots::DotList;
 use numbers::{Controller, Dot, Key};
 use row::Row;
 
@@ -88,22 +90,22 @@ pub fn set_mark(image: &mut [u8], m: Controller, n: Controller, base: u32)
     block::seal_block(&mut image[0..512]);
 }
 
-// One more dot before the i-th of a list: of the own dots, in block 1, or of the foreign ones, in block 2.
-pub fn insert_dot(image: &mut [u8], list: usize, i: usize, d: Dot, k: Key)
-    requires { (length image.old ≡ image_length) × Canonical image.old × (1 ≤ list) × (list ≤ 2) × (i ≤ length (list_of (decode image.old) list)) × (length (list_of (decode image.old) list) < 60) }
-    ensures { (decode image.new ≡ with_list (decode image.old) list (insert_at (list_of (decode image.old) list) i (record { dot = d; key = k }))) × Canonical image.new }
+// One more dot before the i-th of a list.
+pub fn insert_dot(image: &mut [u8], list: DotList, i: usize, d: Dot, k: Key)
+    requires { (length image.old ≡ image_length) × Canonical image.old × (i ≤ length (list_of (decode image.old) (list_block list))) × (length (list_of (decode image.old) (list_block list)) < 60) }
+    ensures { (decode image.new ≡ with_list (decode image.old) (list_block list) (insert_at (list_of (decode image.old) (list_block list)) i (record { dot = d; key = k }))) × Canonical image.new }
 {
-    let at = 512 * list;
+    let at = 512 * list.block();
     dots::insert_dot(&mut image[at..at + 512], i, d, k);
     block::seal_block(&mut image[at..at + 512]);
 }
 
 // The i-th dot of a list goes.
-pub fn remove_dot(image: &mut [u8], list: usize, i: usize)
-    requires { (length image.old ≡ image_length) × Canonical image.old × (1 ≤ list) × (list ≤ 2) × (i < length (list_of (decode image.old) list)) }
-    ensures { (decode image.new ≡ with_list (decode image.old) list (remove_at (list_of (decode image.old) list) i)) × Canonical image.new }
+pub fn remove_dot(image: &mut [u8], list: DotList, i: usize)
+    requires { (length image.old ≡ image_length) × Canonical image.old × (i < length (list_of (decode image.old) (list_block list))) }
+    ensures { (decode image.new ≡ with_list (decode image.old) (list_block list) (remove_at (list_of (decode image.old) (list_block list)) i)) × Canonical image.new }
 {
-    let at = 512 * list;
+    let at = 512 * list.block();
     dots::remove_dot(&mut image[at..at + 512], i);
     block::seal_block(&mut image[at..at + 512]);
 }

@@ -17,6 +17,7 @@ ghost use Rattle.arriving.specs.Sent.{points_in, Few};
 ghost use Rattle.noting.specs.Noted.{arrives_new, new_of, newly_arrived, noted, Crewed};
 ghost use Rattle.noting.specs.Nearest.{nearer, with_new, nearest};
 
+use dots::DotList;
 use numbers::{Controller, Counter, Dot, Key};
 
 // ---- which dots arrive new. The image's clock, table and points are asked, and not its lists: these grow while its other parts stay.
@@ -117,7 +118,7 @@ fn list_dot(image: &mut [u8], d: Dot, k: Key)
 {
     match dots::find_dot(&image[1024..1536], d) {
         Ok(_) => {}
-        Err(i) => image_edits::insert_dot(image, 2, i, d, k),
+        Err(i) => image_edits::insert_dot(image, DotList::Foreign, i, d, k),
     }
 }
 

@@ -8,10 +8,12 @@ ghost use Rattle.meaning.specs.Exchange.{raised, tidied};
 ghost use Rattle.layout.specs.Clocks.{decode_clock};
 ghost use Rattle.layout.specs.Image.{image_length, decode, decode_marks};
 ghost use Rattle.dots.specs.Entries.{no_entry};
+ghost use Rattle.dots.specs.Lists.{list_block};
 ghost use Rattle.image_edits.specs.Edits.{Canonical, list_of, with_list};
 ghost use Rattle.replying.specs.Nearest.{all_crew};
 ghost use Rattle.tidying.specs.Tidied.{said_by, with_marks, raised_to, raised_about, known_to, dot_known, known_now, without_known};
 
+use dots::DotList;
 use numbers::{Controller, Dot};
 
 // ---- "The watermark for the sender (rows of our peers) and our own (all rows) is raised."
@@ -73,20 +75,20 @@ fn known_to_all(table: &[u8], marks: &[u8], d: Dot) -> bool
     (1..9).all(|m| known_to(table, marks, d, Controller(m)))
 }
 
-// The same of the i-th dot of a list: of the own dots, in block 1, or of the foreign ones, in block 2.
-fn entry_known(image: &[u8], list: usize, i: usize) -> bool
-    requires { (length image.now ≡ image_length) × Canonical image.now × (1 ≤ list) × (list ≤ 2) × (i < length (list_of (decode image.now) list)) × Crew (get_or (list_of (decode image.now) list) i no_entry).dot.who }
-    ensures { result ≡ known_now (decode image.now) (get_or (list_of (decode image.now) list) i no_entry) }
+// The same of the i-th dot of a list.
+fn entry_known(image: &[u8], list: DotList, i: usize) -> bool
+    requires { (length image.now ≡ image_length) × Canonical image.now × (i < length (list_of (decode image.now) (list_block list))) × Crew (get_or (list_of (decode image.now) (list_block list)) i no_entry).dot.who }
+    ensures { result ≡ known_now (decode image.now) (get_or (list_of (decode image.now) (list_block list)) i no_entry) }
 {
-    let at = 512 * list;
+    let at = 512 * list.block();
     let d = dots::entry_dot(&image[at..at + 512], i);
     known_to_all(&image[8..16], &image[112..368], d)
 }
 
 // The i-th dot of a list goes where all know it.
-fn drop_entry(image: &mut [u8], list: usize, i: usize)
-    requires { (length image.old ≡ image_length) × Canonical image.old × (1 ≤ list) × (list ≤ 2) × (i < length (list_of (decode image.old) list)) × Crew (get_or (list_of (decode image.old) list) i no_entry).dot.who }
-    ensures { (decode image.new ≡ with_list (decode image.old) list (without_known (decode image.old) (list_of (decode image.old) list) i)) × Canonical image.new }
+fn drop_entry(image: &mut [u8], list: DotList, i: usize)
+    requires { (length image.old ≡ image_length) × Canonical image.old × (i < length (list_of (decode image.old) (list_block list))) × Crew (get_or (list_of (decode image.old) (list_block list)) i no_entry).dot.who }
+    ensures { (decode image.new ≡ with_list (decode image.old) (list_block list) (without_known (decode image.old) (list_of (decode image.old) (list_block list)) i)) × Canonical image.new }
 {
     if !entry_known(image, list, i) {
         return;
@@ -95,11 +97,11 @@ fn drop_entry(image: &mut [u8], list: usize, i: usize)
 }
 
 // The dots of a list that all know go, from the last to the first.
-fn drop_known(image: &mut [u8], list: usize)
-    requires { (length image.old ≡ image_length) × Canonical image.old × (1 ≤ list) × (list ≤ 2) × (all_crew (list_of (decode image.old) list) ≡ true) }
-    ensures { (decode image.new ≡ with_list (decode image.old) list (keep (λ l. not (known_now (decode image.old) l)) (list_of (decode image.old) list))) × Canonical image.new }
+fn drop_known(image: &mut [u8], list: DotList)
+    requires { (length image.old ≡ image_length) × Canonical image.old × (all_crew (list_of (decode image.old) (list_block list)) ≡ true) }
+    ensures { (decode image.new ≡ with_list (decode image.old) (list_block list) (keep (λ l. not (known_now (decode image.old) l)) (list_of (decode image.old) (list_block list)))) × Canonical image.new }
 {
-    let at = 512 * list;
+    let at = 512 * list.block();
     let count = dots::entry_count(&image[at..at + 512]) as usize;
     for i in (0..count).rev() {
         drop_entry(image, list, i);
@@ -114,6 +116,6 @@ pub fn tidy(image: &mut [u8], sender: Controller, rows: &[u8])
     ensures { (decode image.new ≡ tidied (decode image.old) (said_by sender (decode_clock rows.now))) × Canonical image.new }
 {
     raise_marks(image, sender, rows);
-    drop_known(image, 1);
-    drop_known(image, 2);
+    drop_known(image, DotList::Own);
+    drop_known(image, DotList::Foreign);
 }

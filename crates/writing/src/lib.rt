@@ -26,6 +26,7 @@ ghost use Rattle.writing.specs.LeftBy.{left_by};
 ghost use Rattle.writing.specs.Recorded.{next_clock, recorded};
 
 use block::Kind;
+use dots::DotList;
 use numbers::{Counter, Dot, Key};
 use refusal::Refusal;
 use row::Row;
@@ -168,7 +169,7 @@ fn keep_written(image: &mut [u8], d: Dot, b: &[u8])
         },
     );
     let listed = dots::entry_count(&image[512..1024]) as usize;
-    image_edits::insert_dot(image, 1, listed, d, record::key_of(b));
+    image_edits::insert_dot(image, DotList::Own, listed, d, record::key_of(b));
     let mut rows: [u8; 96] = [0; 96];
     block::copy_in(&mut rows, 0, &image[16..112]);
     let count = image::stored_count(image);

@@ -17,7 +17,7 @@ pub find_dot-requires : goal.find_dot-requires
 find_dot-requires c = (search rules, foreign_few c.args.image.now (bytes_of c.args.image.now c.slice_known-1.given) c.requires.0 c.requires.1, ap (ascends? listed_before) (foreign_list c.args.image.now (bytes_of c.args.image.now c.slice_known-1.given) c.requires.0 c.requires.1) ∙ c.requires.2)
 
 pub insert_dot-requires : goal.insert_dot-requires
-insert_dot-requires c = (c.requires.0, c.requires.1, omega arith, omega arith, (found_in _ (decode c.args.image.now).foreign_dots c.args.d (foreign_list c.args.image.now (bytes_of c.args.image.now c.slice_known-1.given) c.requires.0 c.requires.1) c.find_dot.result c.find_dot.ensures (Err c.in-Err.i) c.in-Err.is).0, c.requires.3)
+insert_dot-requires c = (c.requires.0, c.requires.1, (found_in _ (decode c.args.image.now).foreign_dots c.args.d (foreign_list c.args.image.now (bytes_of c.args.image.now c.slice_known-1.given) c.requires.0 c.requires.1) c.find_dot.result c.find_dot.ensures (Err c.in-Err.i) c.in-Err.is).0, c.requires.3)
 
 pub returns-in-Ok : goal.returns-in-Ok
 returns-in-Ok c = not_found c.args.d (decode c.args.image.now).foreign_dots c.in-Ok.field-0 c.requires.4 (found_in _ (decode c.args.image.now).foreign_dots c.args.d (foreign_list c.args.image.now (bytes_of c.args.image.now c.slice_known-1.given) c.requires.0 c.requires.1) c.find_dot.result c.find_dot.ensures (Ok c.in-Ok.field-0) c.in-Ok.is)
