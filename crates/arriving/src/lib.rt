@@ -20,6 +20,7 @@ use numbers::{Controller, Counter, Dot, Key};
 use row::Row;
 
 // A row to which counters are added while they fit, and whether one was left over.
+// Both fields always mean something, so that it is no `Result<Row, Row>`, which would say the row in two arms.
 #[derive(Clone, Copy)]
 pub struct Tried {
     pub row: Row,
