@@ -80,11 +80,11 @@ module _ (s : State) (k : Key) (c : Context) (mine : ours s k ≡ true) where
     down_refused r e = put_down_judged s G k b c (held_here s k mine) ∙ judged_refused s k (has_value b) c _ r e
 
     module _ (img out : List ℕ) where
-      pub refused_so : (r : Refusal) → verdict_of (judged s k (has_value b) c true) ≡ Err r → afterwards img out (left_by (put_down s k b c)) ≡ untouched r img out
-      refused_so r e = left_refused img out (put_down s k b c) r (down_refused r e)
+      pub put_down_refused : (r : Refusal) → verdict_of (judged s k (has_value b) c true) ≡ Err r → afterwards img out (left_by (put_down s k b c)) ≡ untouched r img out
+      put_down_refused r e = left_refused img out (put_down s k b c) r (down_refused r e)
 
-      pub made_so : verdict_of (judged s k (has_value b) c true) ≡ Ok tt → afterwards img out (left_by (put_down s k b c)) ≡ made s k b c
-      made_so e = left_done img out (put_down s k b c) s k b c (put_down_done s G k b c mine e)
+      pub put_down_made : verdict_of (judged s k (has_value b) c true) ≡ Ok tt → afterwards img out (left_by (put_down s k b c)) ≡ made s k b c
+      put_down_made e = left_done img out (put_down s k b c) s k b c (put_down_done s G k b c mine e)
 
 -- ---- a value or a deletion, as it is lent
 
