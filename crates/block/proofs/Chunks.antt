@@ -61,10 +61,10 @@ enumerated j (suc n) f =
     enumerated (j + 1) n (λ k. f (suc k)) ∙ upto_same n (λ k. (j + 1 + k, f (suc k))) (λ k. (j + suc k, f (suc k))) (λ k l. let o : j + 1 + k ≡ j + suc k = omega arith in λ i. (o i, f (suc k))) in
     λ i. (here i, f 0) ∷ later i
 
-beside : {B : Type 0} (n : ℕ) (f : ℕ → B) (vs : List ℕ) → n ≤ length vs → zip (upto n f) vs ≡ upto n (λ k. (f k, get_or vs k 0))
-beside zero f vs h = refl
-beside (suc n) f [] h = absurd (omega arith)
-beside (suc n) f (v ∷ vs) h = λ i. (f 0, v) ∷ beside n (λ k. f (suc k)) vs (le_of_suc-le-suc h) i
+beside : {B E : Type 0} (n : ℕ) (f : ℕ → B) (vs : List E) (e : E) → n ≤ length vs → zip (upto n f) vs ≡ upto n (λ k. (f k, get_or vs k e))
+beside zero f vs e h = refl
+beside (suc n) f [] e h = absurd (omega arith)
+beside (suc n) f (v ∷ vs) e h = λ i. (f 0, v) ∷ beside n (λ k. f (suc k)) vs e (le_of_suc-le-suc h) i
 
 module _ {B : Type 0} (d : List ℕ → B) {s : ChunksExact ℕ} (run : List ℕ) (rest : chunks_exact_rest s ≡ run) (size : chunks_exact_size s ≡ 512) where
   pub blocks_given : Road chunks_exact_steps (λ y. d y.now) s (length run / 512) (λ k. d (block_at run k))
@@ -100,11 +100,11 @@ module _ {B : Type 0} (d : List ℕ → B) {s : ChunksExact ℕ} (run : List ℕ
   }
 
   -- each with what stands beside it in a list that is long enough
-  pub zipped_given : {z : Zip (ChunksExact ℕ) (Iter ℕ)} → zip_first z ≡ s → (vs : List ℕ) → iter_rest (zip_second z) ≡ vs → length run / 512 ≤ length vs
-      → Road {B = B × ℕ} (zip_steps chunks_exact_steps iter_steps) (λ p. (d p.0.now, p.1.now)) z (length run / 512) (λ k. (d (block_at run k), get_or vs k 0))
-  zipped_given {z} first vs second h = record {
+  pub zipped_given : {E : Type 0} {z : Zip (ChunksExact ℕ) (Iter E)} → zip_first z ≡ s → (vs : List E) (e : E) → iter_rest (zip_second z) ≡ vs → length run / 512 ≤ length vs
+      → Road {B = B × E} (zip_steps chunks_exact_steps iter_steps) (λ p. (d p.0.now, p.1.now)) z (length run / 512) (λ k. (d (block_at run k), get_or vs k e))
+  zipped_given {E} {z} first vs e second h = record {
     gives =
-        subst (YieldsList (zip_steps chunks_exact_steps iter_steps) (λ (p : Bor (List ℕ) × Bor ℕ). (d p.0.now, p.1.now)) z) (beside (length run / 512) (λ k. d (block_at run k)) vs h)
+        subst (YieldsList (zip_steps chunks_exact_steps iter_steps) (λ (p : Bor (List ℕ) × Bor E). (d p.0.now, p.1.now)) z) (beside (length run / 512) (λ k. d (block_at run k)) vs e h)
         (YieldsList-from_zip (YieldsList-at first blocks_given.gives) (YieldsList-from_slice vs second));
   }
 

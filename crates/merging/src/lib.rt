@@ -57,19 +57,13 @@ pub fn surviving(b: &[u8], m: &[u8], there: &[u32]) -> usize
         .count()
 }
 
-// The local versions that the message's context covers and the message lacks go. The last is looked at first, so that those still to come
-// stand where they stood.
+// The local versions that the message's context covers and the message lacks go.
 pub fn drop_missed(b: &mut [u8], m: &[u8], there: &[u32])
     requires { (length b.old ≡ 512) × Laid lay_point point_block b.old × (crewed (decode_point form_1 b.old).object.versions ≡ true)
         × (length m.now ≡ 512) × (field m.now 5 1 ≤ 8) × (length there.now ≡ 8) }
     ensures { (point_block b.new ≡ with_versions (point_block b.old) (survivors (decode_point form_1 b.old).object (theirs m.now there.now))) × Laid lay_point point_block b.new }
 {
-    let count = record::version_count(b) as usize;
-    for i in (0..count).rev() {
-        if !survives(record::version_dot(b, i), m, there) {
-            record_edits::remove_version(b, i);
-        }
-    }
+    object::drop_where(b, |b, i| !survives(record::version_dot(b, i), m, there));
 }
 
 // The higher of two entries.
