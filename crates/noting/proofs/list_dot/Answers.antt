@@ -9,7 +9,6 @@ use Rattle.dots.proofs.Placing.{place_listed}
 use Rattle.image_edits.specs.Edits.{with_list}
 use Rattle.noting.proofs.Placing.{not_found, found_in}
 use Rattle.noting.proofs.Rounds.{foreign_list, foreign_few}
-use native.Mathlib.Omega.{arith}
 use Rattle.noting.proofs.list_dot.Goals as goal
 use Rattle.std.specs.Prelude.{Ok, Err}
 
