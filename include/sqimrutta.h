@@ -2,8 +2,8 @@
  *
  * Every function here is proved to end with an answer on any bytes, lengths and numbers, to write only what its comment says, and to leave every
  * lent byte as it was when it refuses. It keeps nothing between calls, takes no memory but some hundred bytes of stack (docs/MEASURES.md), and needs
- * only `memset`, `memcpy` and `memmove` of a C library. A pointer must be valid for the length that goes with it, also where that length is wrong;
- * two buffers of one call must not overlap.
+ * only `memset` and `memcpy` of a C library. A pointer must be valid for the length that goes with it, also where that length is wrong; two buffers
+ * of one call must not overlap.
  *
  * Link with libsqimrutta.a, which `tools/library` writes to target/staticlib. */
 

@@ -13,6 +13,8 @@ pub mod Scans
 pub mod Passing
 pub mod Asked
 pub mod ByIndex
+pub mod Copies
+pub mod Moves
 pub mod Search
 pub mod Placed
 pub mod Runs

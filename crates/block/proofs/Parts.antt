@@ -5,7 +5,7 @@ use mathlib.Core.List.{List, [], ◌∷◌, ◌++◌, append_assoc}
 use native.Mathlib.Nat.{add-sub_cancel_left, suc-add, zero-add}
 use native.Mathlib.Omega.{arith}
 use lib.ListN.{length, take, drop, replicate, length-take, length-drop, length-append, length-replicate}
-use lib.Seq.{take-append-le, drop-append-le, take-take, take_at, drop_at, drop-drop, take-nil, take_all, take-append-add, drop-append-add}
+use lib.Seq.{take-append-le, drop-append-le, take-take, take_at, drop_at, drop-drop, take-nil, take_all, take-add, take-append-add, drop-append-add}
 use Rattle.block.specs.Fields.{cut, splice, pad}
 
 module _ {A : Type 0} where
@@ -44,6 +44,10 @@ module _ {A : Type 0} where
       ∙ ap (drop c) (take-take (c + m) n (drop a l) h)
       ∙ sym (take_drop m c (drop a l))
       ∙ ap (take m) (drop-drop c a l)
+
+  -- two parts one behind the other are one
+  pub cut_join : (l : List A) (a m n : ℕ) → cut l a (m + n) ≡ cut l a m ++ cut l (a + m) n
+  cut_join l a m n = take-add m n (drop a l) ∙ ap (λ (x : List A). cut l a m ++ take n x) (drop-drop m a l)
 
   -- ---- one part put anew
 

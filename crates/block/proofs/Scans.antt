@@ -2,14 +2,14 @@
 use Prim.Native.Nat.{ℕ, ◌+◌, ◌*◌}
 use mathlib.Core.Path.{◌≡◌, refl, ap, sym, ◌∙◌}
 use mathlib.Core.Bool.{Bool, true, false, ◌&&◌}
-use mathlib.Core.List.{List, [], ◌∷◌}
+use mathlib.Core.List.{List, [], ◌∷◌, ◌++◌}
 use native.Mathlib.Omega.{arith}
 use lib.Dec.{eqb}
 use lib.Bits.{bit_or}
 use Rattle.std.specs.List.{fold}
 use Rattle.std.proofs.lemmas.Nat.{le_or_l, le_or_r}
 use Rattle.block.proofs.Passing.{and_true}
-use borrow.Author.Tests.{eq-eqb, eqb-true}
+use borrow.Author.Tests.{eq-eqb, ne_eqb, eqb-true}
 use Rattle.numbers.specs.Words.{all?}
 use Rattle.numbers.proofs.Tests.{same_test, and_left, and_right, and_both}
 use Rattle.block.specs.Fields.{number}
@@ -40,3 +40,23 @@ or_zero a b =
 pub fold_zero : (l : List ℕ) (a : ℕ) → eqb (fold bit_or a l) 0 ≡ (eqb a 0 && all? (λ x. eqb x 0) l)
 fold_zero [] a = sym (and_true (eqb a 0))
 fold_zero (x ∷ l) a = fold_zero l (bit_or a x) ∙ ap (λ (t : Bool). t && all? (λ y. eqb y 0) l) (or_zero a x) ∙ and_assoc (eqb a 0) (eqb x 0) (all? (λ y. eqb y 0) l)
+
+-- ---- a run of bytes, looked at part by part
+
+all_append : {A : Type 0} (p : A → Bool) (xs ys : List A) → all? p (xs ++ ys) ≡ (all? p xs && all? p ys)
+all_append p [] ys = refl
+all_append p (x ∷ xs) ys = ap (λ (t : Bool). p x && t) (all_append p xs ys) ∙ sym (and_assoc (p x) (all? p xs) (all? p ys))
+
+abbrev zeros : List ℕ → Bool
+zeros = all? (λ x. eqb x 0)
+
+-- n is what `|` makes of the first part of run
+module _ (n : ℕ) (run part rest : List ℕ) (is : run ≡ part ++ rest) (made : n ≡ fold bit_or 0 part) where
+  both : zeros run ≡ (eqb n 0 && zeros rest)
+  both = ap zeros is ∙ all_append (λ x. eqb x 0) part rest ∙ ap (λ (t : Bool). t && zeros rest) (sym (fold_zero part 0) ∙ ap (λ (k : ℕ). eqb k 0) (sym made))
+
+  pub zero_on : n ≡ 0 → zeros run ≡ zeros rest
+  zero_on e = both ∙ ap (λ (t : Bool). t && zeros rest) (eq-eqb n 0 e)
+
+  pub zero_not : (n ≡ 0 → ⊥) → false ≡ zeros run
+  zero_not e = sym (both ∙ ap (λ (t : Bool). t && zeros rest) (ne_eqb n 0 e))

@@ -170,13 +170,18 @@ pub fn seal_block(b: &mut [u8])
     put_u16(b, 510, s.s2 as u16);
 }
 
-// Whether the bytes from `from` to before `to` are zero. `|` takes all of them and not only those up to the first that is not: so the compiler
-// tests sixteen at a time, where `all` goes one by one.
+// Whether the bytes from `from` to before `to` are zero. `|` takes all of a part and not only those up to the first that is not: so the compiler
+// tests sixteen at a time, where `all` goes one by one. A long run ends with the first part of a block's length that is not zero.
 pub fn is_zero(b: &[u8], from: usize, to: usize) -> bool
     requires { (from ≤ to) × (to ≤ length b.now) }
     ensures { result ≡ all? (λ x. eqb x 0) (cut b.now from (to - from)) }
 {
-    b[from..to].iter().fold(0, |any, byte| any | *byte) == 0
+    for part in b[from..to].chunks(512) {
+        if part.iter().fold(0, |any, byte| any | *byte) != 0 {
+            return false;
+        }
+    }
+    true
 }
 
 // Whether two slices hold the same bytes. Slices of other lengths do not.
@@ -194,34 +199,46 @@ pub fn clear(b: &mut [u8], from: usize, to: usize)
     b[from..to].fill(0);
 }
 
-// All of `src` into `out`, from `at` on.
+// All of `src` into `out`, from `at` on. `copy_from_slice` is shorter, but is C's `memmove`, which the library does not ask for.
 pub fn copy_in(out: &mut [u8], at: usize, src: &[u8])
     requires { at + length src.now ≤ length out.old }
     ensures { out.new ≡ splice out.old at (length src.now) src.now }
 {
-    out[at..at + src.len()].copy_from_slice(src);
+    for i in 0..src.len() {
+        out[at + i] = src[i];
+    }
 }
 
-// The `8 * words` bytes from `from` on also to `to`, whatever of the two parts overlaps.
-pub fn move_run(run: &mut [u8], from: usize, to: usize, words: usize)
-    requires { (from + 8 * words ≤ length run.old) × (to + 8 * words ≤ length run.old) }
-    ensures { run.new ≡ splice run.old to (8 * words) (cut run.old from (8 * words)) }
-{
-    run.copy_within(from..from + 8 * words, to);
-}
-
-// To a place that lies no lower.
+// Eight bytes `words` times, from `from` on, over those from `to` on, which lies no lower. The two parts may overlap: the last eight go
+// first. `copy_within` is shorter, but is C's `memmove`, which the library does not ask for.
 pub fn move_up(run: &mut [u8], from: usize, to: usize, words: usize)
     requires { (from ≤ to) × (to + 8 * words ≤ length run.old) }
     ensures { run.new ≡ splice run.old to (8 * words) (cut run.old from (8 * words)) }
 {
-    move_run(run, from, to, words);
+    for k in (0..words).rev() {
+        let eight = u64_at(run, from + 8 * k);
+        put_u64(run, to + 8 * k, eight);
+    }
 }
 
-// To a place that lies no higher.
+// The same to a place that lies no higher: the first eight go first.
 pub fn move_down(run: &mut [u8], from: usize, to: usize, words: usize)
     requires { (to ≤ from) × (from + 8 * words ≤ length run.old) }
     ensures { run.new ≡ splice run.old to (8 * words) (cut run.old from (8 * words)) }
 {
-    move_run(run, from, to, words);
+    for k in 0..words {
+        let eight = u64_at(run, from + 8 * k);
+        put_u64(run, to + 8 * k, eight);
+    }
+}
+
+// The `8 * words` bytes from `from` on also to `to`, wherever that lies.
+pub fn move_run(run: &mut [u8], from: usize, to: usize, words: usize)
+    requires { (from + 8 * words ≤ length run.old) × (to + 8 * words ≤ length run.old) }
+    ensures { run.new ≡ splice run.old to (8 * words) (cut run.old from (8 * words)) }
+{
+    if from < to {
+        return move_up(run, from, to, words);
+    }
+    move_down(run, from, to, words)
 }

@@ -1,18 +1,16 @@
--- `block::is_zero` meets its contract: what `|` makes of all bytes is 0 where each of them is (Scans). Assumes nothing.
+-- `block::is_zero` meets its contract. What `|` makes of a part is 0 where each of its bytes is (Scans). Assumes nothing.
 use Rattle.std.proofs.Common.{rules}
-use Prim.Native.Nat.{ℕ, ◌-◌}
-use mathlib.Core.Path.{◌≡◌, ap, ◌∙◌}
-use mathlib.Core.List.{List}
-use lib.Bits.{bit_or}
-use lib.Dec.{eqb}
-use Rattle.std.specs.List.{fold}
-use Rattle.block.specs.Fields.{cut}
-use Rattle.block.proofs.Scans.{fold_zero}
+use mathlib.Core.Path.{◌∙◌, sym}
+use Rattle.std.specs.Slice.Iter.{chunks_rest}
+use Rattle.block.proofs.Scans.{zero_on, zero_not}
 use Rattle.block.proofs.is_zero.Goals as goal
 
-pub returns : goal.returns
-returns c =
-    let a = c.args in
-    let part : List ℕ = cut a.b.now a.from (a.to - a.from) in
-    let all : c.fold.result ≡ fold bit_or 0 part = search rules in
-    ap (λ (n : ℕ). eqb n 0) all ∙ fold_zero part 0
+pub returns-then-fold-ne0 : goal.returns-then-fold-ne0
+returns-then-fold-ne0 c =
+    let l = c.loop-part in
+    zero_not c.fold.result (chunks_rest l.part-iterator) c.in-Some.part.now (chunks_rest c.next.new.self) c.in-Some.ensures.steps.1.0 (search rules) c.if-fold-ne0.true ∙ sym l.invariant
+
+pub loop-part-preserved : goal.loop-part-preserved
+loop-part-preserved c =
+    let l = c.loop-part in
+    l.invariant ∙ zero_on c.fold.result (chunks_rest l.part-iterator) c.in-Some.part.now (chunks_rest c.next.new.self) c.in-Some.ensures.steps.1.0 (search rules) c.if-fold-ne0.false
