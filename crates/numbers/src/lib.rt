@@ -38,11 +38,11 @@ impl Dot {
         self == other
     }
 
-    // "ascending by controller and counter"
+    // "ascending by controller and counter". The derived `<` of the whole goes through an `Ordering`, and takes half as much again in a search.
     pub fn before(self, other: Dot) -> bool
         ensures { result ≡ dot_before self other }
     {
-        self < other
+        self.who < other.who || self.who == other.who && self.count < other.count
     }
 }
 

@@ -1,15 +1,18 @@
--- `apart::has_version` meets its contract. Assumes nothing.
-use Rattle.std.proofs.Common.{rules, tests}
-use mathlib.Core.Path.{refl, ◌∙◌}
+-- `apart::has_version` meets its contract. The invariant is `Passing`: the versions before i have other dots (Versions). Assumes nothing.
+use Rattle.block.specs.Fields.{field}
+use Rattle.block.proofs.Passing.{none_passed}
+use Rattle.apart.proofs.Versions.{another, has_it, not_yet, has_none}
 use native.Mathlib.Omega.{arith}
-use Rattle.numbers.specs.Dot.{same_dot}
-use Rattle.record.proofs.Chains.{chain_any}
-use Rattle.record.proofs.Reading.{version_at}
-use Rattle.apart.proofs.Versions.{by_tests}
 use Rattle.apart.proofs.has_version.Goals as goal
 
+pub loop-i-init : goal.loop-i-init
+loop-i-init c = let a = c.args in none_passed (field a.b.now 5 1) (another a.b.now a.d)
+
+pub returns-then-same : goal.returns-then-same
+returns-then-same c = let a = c.args in has_it a.b.now a.d (omega arith) c.loop-i.invariant (omega (arith, c.version_count-i-end.ensures)) c.version_dot.ensures c.same.ensures c.if-same.true
+
+pub loop-i-preserved : goal.loop-i-preserved
+loop-i-preserved c = let a = c.args in not_yet a.b.now a.d (omega arith) c.loop-i.invariant (omega (arith, c.version_count-i-end.ensures)) c.version_dot.ensures c.same.ensures c.if-same.false
+
 pub returns : goal.returns
-returns c =
-    chain_any c.version_count.result (λ i. same_dot c.args.d (version_at c.args.b.now i).dot) (λ w. same_dot c.args.d w.dot) (version_at c.args.b.now)
-    c.any.ensures.ran (cc) (λ x b q k. search (rules, tests)) (λ i l. refl)
-    ∙ by_tests c.args.b.now c.args.d (omega arith) c.version_count.ensures
+returns c = let a = c.args in has_none a.b.now a.d (omega arith) c.loop-i.invariant (omega (arith, c.version_count-i-end.ensures))
