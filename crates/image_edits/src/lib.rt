@@ -31,7 +31,7 @@ pub fn fetch(image: &[u8], count: usize, k: Key, kind: Kind, sender: Controller,
         Ok(i) => {
             let at = 512 * (3 + i);
             block::copy_in(out, 0, &image[at..at + 512]);
-            record_edits::relabel(out, kind, 0, sender);
+            record_edits::relabel(out, u8::from(kind), 0, sender);
         }
         Err(_) => record_edits::write_empty(out, kind, 0, sender, k),
     }

@@ -49,12 +49,13 @@ pub fn write_empty(b: &mut [u8], kind: Kind, position: u16, sender: Controller, 
     block::seal_block(b);
 }
 
-// The same point as another kind of block, at another place, from another sender: a record as a message, a message as a record.
-pub fn relabel(b: &mut [u8], kind: Kind, position: u16, from: Controller)
+// The same point as another kind of block, at another place, from another sender: a record as a message, a message as a record. The kind is a
+// number here, and any byte: README names this function's contract, which says so.
+pub fn relabel(b: &mut [u8], kind: u8, position: u16, from: Controller)
     requires { (length b.old ≡ 512) × Laid lay_point point_block b.old }
-    ensures { (point_block b.new ≡ relabelled (point_block b.old) (kind_number kind) position from) × Laid lay_point point_block b.new }
+    ensures { (point_block b.new ≡ relabelled (point_block b.old) kind position from) × Laid lay_point point_block b.new }
 {
-    block::put_u8(b, 0, u8::from(kind));
+    block::put_u8(b, 0, kind);
     block::put_u16(b, 2, position);
     block::put_u8(b, 296, from.0);
 }
@@ -100,6 +101,6 @@ pub fn renumber(b: &mut [u8], position: u16)
     requires { (length b.old ≡ 512) × Laid lay_point point_block b.old }
     ensures { b.new ≡ encode_stored form_1 position (decode_stored form_1 b.old) }
 {
-    relabel(b, Kind::Point, position, Controller(0));
+    relabel(b, u8::from(Kind::Point), position, Controller(0));
     block::seal_block(b);
 }
