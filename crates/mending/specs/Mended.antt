@@ -1,5 +1,5 @@
 -- The points of a reply, each filled with the sender's clock and merged with the local one: the results of a repair. Assumes nothing.
-use Rattle.std.specs.Prelude.{ℕ, ◌/◌, ◌≤◌, ◌<◌, ◌≡◌, Bool, true, false, not, List, [], ◌∷◌, length, get_or, take, if◌then◌else◌}
+use Rattle.std.specs.Prelude.{ℕ, ◌/◌, ◌≤◌, ◌<◌, ◌≡◌, true, List, [], ◌∷◌, length, get_or, take, eqb, if◌then◌else◌}
 use Rattle.numbers.specs.Words.{map, fold}
 use Rattle.numbers.specs.Numbers.{counter}
 use Rattle.block.specs.Block.{Laid, block_at}
@@ -31,22 +31,17 @@ Joinable s k b =
     (here there : List ℕ) → length here ≡ 8 → map counter here ≡ (local s (key_in b)).context → length there ≡ 8 → map counter there ≡ (filled s k (decode_stored form_1 b)).context
     → Mergeable (local s (key_in b)).versions b here there
 
--- a mark says this
-abbrev pub says : Bool → Bool → Bool
-says true m = m
-says false m = not m
-
 -- each block of a run is laid out, and can be merged where its mark is w
-abbrev pub AllJoinable : State → Clock → Bool → List ℕ → List Bool → Type 0
+abbrev pub AllJoinable : State → Clock → ℕ → List ℕ → List ℕ → Type 0
 AllJoinable s k w run ms =
-    (i : ℕ) → i < length run / 512 → (length (block_at run i) ≡ 512) × Laid lay_point point_block (block_at run i) × (says w (get_or ms i false) ≡ true → Joinable s k (block_at run i))
+    (i : ℕ) → i < length run / 512 → (length (block_at run i) ≡ 512) × Laid lay_point point_block (block_at run i) × (eqb (get_or ms i 0) w ≡ true → Joinable s k (block_at run i))
 
 -- the results whose mark is w
-unfoldable pub marked : Bool → List Bool → List Stored → List Stored
+unfoldable pub marked : ℕ → List ℕ → List Stored → List Stored
 marked w [] rs = []
 marked w (m ∷ ms) [] = []
-marked w (m ∷ ms) (r ∷ rs) = if says w m then r ∷ marked w ms rs else marked w ms rs
+marked w (m ∷ ms) (r ∷ rs) = if eqb m w then r ∷ marked w ms rs else marked w ms rs
 
 -- there is room whenever the results of a run whose mark is w are put as far as the i-th
-abbrev pub RoomFor : Clock → State → Clock → Bool → List ℕ → List Bool → Type 0
+abbrev pub RoomFor : Clock → State → Clock → ℕ → List ℕ → List ℕ → Type 0
 RoomFor c s k w run ms = (i : ℕ) → i ≤ length run / 512 → length (fold (put c) s.points (marked w (take i ms) (results s k run))) ≤ most_points

@@ -2,7 +2,7 @@
 // the sender's rows, with which the reply's objects are filled, and `rows` those that the step will leave.
 #![tactic(auto)]
 
-ghost use Rattle.std.specs.Prelude.{◌≡◌, true, ◌/◌, ◌≤◌, length, take, if◌then◌else◌};
+ghost use Rattle.std.specs.Prelude.{◌≡◌, true, ◌/◌, ◌≤◌, length, take, eqb, if◌then◌else◌};
 ghost use Rattle.numbers.specs.Words.{map, ascends?, fold};
 ghost use Rattle.numbers.specs.Numbers.{counter};
 ghost use Rattle.block.specs.Block.{Laid};
@@ -14,7 +14,7 @@ ghost use Rattle.layout.specs.Image.{image_length, decode};
 ghost use Rattle.record_edits.specs.Written.{lay_point, point_block};
 ghost use Rattle.image_edits.specs.Edits.{Canonical, with_points};
 ghost use Rattle.weighing.specs.Weighed.{key_in};
-ghost use Rattle.mending.specs.Mended.{filled, mend, results, Joinable, says, AllJoinable, marked, RoomFor};
+ghost use Rattle.mending.specs.Mended.{filled, mend, results, Joinable, AllJoinable, marked, RoomFor};
 
 // ---- one point
 
@@ -73,39 +73,40 @@ fn merge_point(image: &mut [u8], b: &[u8], clock: &[u8], rows: &[u8])
     merge_with(image, count, b, clock, rows, &mut here, &mut there);
 }
 
-// A mark says whether the point needs a new place. In the pass over those whose mark says so, or over those whose mark does not, and in no other: so room
-// is needed in that pass only.
-fn merge_if(image: &mut [u8], b: &[u8], clock: &[u8], rows: &[u8], mark: bool, new_places: bool)
+// In the pass that its mark names, and in no other: so room is needed in that pass only.
+fn merge_if(image: &mut [u8], b: &[u8], clock: &[u8], rows: &[u8], mark: u8, which: u8)
     requires { (length image.old ≡ image_length) × Canonical image.old × (ascends? stored_before (decode image.old).points ≡ true)
-        × (length b.now ≡ 512) × Laid lay_point point_block b.now × (length clock.now ≡ 96) × (length rows.now ≡ 96) × (says new_places mark ≡ true → Joinable (decode image.old) (decode_clock clock.now) b.now)
-        × (says new_places mark ≡ true → length (put (decode_clock rows.now) (decode image.old).points (mend (decode image.old) (decode_clock clock.now) (decode_stored form_1 b.now))) ≤ most_points) }
-    ensures { (decode image.new ≡ (if says new_places mark then with_points (decode image.old) (put (decode_clock rows.now) (decode image.old).points (mend (decode image.old) (decode_clock clock.now) (decode_stored form_1 b.now))) else decode image.old))
+        × (length b.now ≡ 512) × Laid lay_point point_block b.now × (length clock.now ≡ 96) × (length rows.now ≡ 96) × (eqb mark which ≡ true → Joinable (decode image.old) (decode_clock clock.now) b.now)
+        × (eqb mark which ≡ true → length (put (decode_clock rows.now) (decode image.old).points (mend (decode image.old) (decode_clock clock.now) (decode_stored form_1 b.now))) ≤ most_points) }
+    ensures { (decode image.new ≡ (if eqb mark which then with_points (decode image.old) (put (decode_clock rows.now) (decode image.old).points (mend (decode image.old) (decode_clock clock.now) (decode_stored form_1 b.now))) else decode image.old))
         × Canonical image.new }
 {
-    if mark == new_places {
+    if mark == which {
         merge_point(image, b, clock, rows);
     }
 }
 
 // ---- one pass
 
-// Those that need a new place, or those that need none, in the order in which they stand. With those first that need no new place, there is room for each.
+// A mark and the number of a pass are bytes, not truth values: docs/CONTRACTS.md names this function, and its types are not narrowed.
+//
+// Those whose mark is `which`, in the order in which they stand. With those first that need no new place, there is room for each.
 pub fn merge_marked(
     image: &mut [u8],
     points: &[u8],
     clock: &[u8],
     rows: &[u8],
-    marks: &[bool],
-    new_places: bool,
+    marks: &[u8],
+    which: u8,
 )
     requires { (length image.old ≡ image_length) × Canonical image.old × (ascends? stored_before (decode image.old).points ≡ true)
-        × (length clock.now ≡ 96) × (length rows.now ≡ 96) × AllJoinable (decode image.old) (decode_clock clock.now) new_places points.now marks.now
+        × (length clock.now ≡ 96) × (length rows.now ≡ 96) × AllJoinable (decode image.old) (decode_clock clock.now) which points.now marks.now
         × (ascends? stored_before (results (decode image.old) (decode_clock clock.now) points.now) ≡ true) × (length points.now / 512 ≤ length marks.now)
-        × RoomFor (decode_clock rows.now) (decode image.old) (decode_clock clock.now) new_places points.now marks.now }
-    ensures { (decode image.new ≡ with_points (decode image.old) (fold (put (decode_clock rows.now)) (decode image.old).points (marked new_places (take (length points.now / 512) marks.now) (results (decode image.old) (decode_clock clock.now) points.now))))
+        × RoomFor (decode_clock rows.now) (decode image.old) (decode_clock clock.now) which points.now marks.now }
+    ensures { (decode image.new ≡ with_points (decode image.old) (fold (put (decode_clock rows.now)) (decode image.old).points (marked which (take (length points.now / 512) marks.now) (results (decode image.old) (decode_clock clock.now) points.now))))
         × Canonical image.new }
 {
     for (b, mark) in points.chunks_exact(512).zip(marks) {
-        merge_if(image, b, clock, rows, *mark, new_places);
+        merge_if(image, b, clock, rows, *mark, which);
     }
 }

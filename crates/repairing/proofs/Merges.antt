@@ -1,7 +1,7 @@
 -- What the two passes of a repair ask, and what they leave, in the states that the image says. Assumes nothing.
 use Prim.Native.Nat.{ℕ, ◌/◌, ◌≤◌, ◌<◌}
 use mathlib.Core.Path.{◌≡◌, refl, ap, sym, ◌∙◌, subst}
-use mathlib.Core.Bool.{Bool, true, false}
+use mathlib.Core.Bool.{true}
 use mathlib.Core.List.{List}
 use native.Mathlib.Omega.{arith}
 use lib.ListN.{length, take}
@@ -22,7 +22,7 @@ use Rattle.noting.specs.Noted.{noted}
 use Rattle.placing.specs.Placed.{comes}
 use Rattle.hearing.specs.Heard.{reply_in}
 use Rattle.mending.specs.Mended.{results, AllJoinable, marked, RoomFor}
-use Rattle.tallying.specs.Tallied.{AllReady, results_judged}
+use Rattle.tallying.specs.Tallied.{mark, AllReady, results_judged}
 use Rattle.tallying.proofs.Judged.{passed}
 use Rattle.repairing.specs.Repaired.{outcome, Lent}
 use Rattle.repairing.proofs.OfReply.{in_order, results_are, all_ready}
@@ -30,11 +30,11 @@ use Rattle.repairing.proofs.Passes.{first_joinable, first_room, first_order, aft
 use Rattle.std.specs.Prelude.{Ok}
 
 -- what a pass asks of the state that the image says
-abbrev pub MergeablePass : Clock → State → Clock → Bool → List ℕ → List Bool → Type 0
+abbrev pub MergeablePass : Clock → State → Clock → ℕ → List ℕ → List ℕ → Type 0
 MergeablePass c z k w run ms =
     (ascends? stored_before z.points ≡ true) × AllJoinable z k w run ms × (ascends? stored_before (results z k run) ≡ true) × RoomFor c z k w run ms
 
-module _ (s : State) (G : Good s) (up : ascends? stored_before s.points ≡ true) (head run : List ℕ) (ms : List Bool) (L : Lent s head run) (long : (i : ℕ) → i < length run / 512 → length (block_at run i) ≡ 512) where
+module _ (s : State) (G : Good s) (up : ascends? stored_before s.points ≡ true) (head run ms : List ℕ) (L : Lent s head run) (long : (i : ℕ) → i < length run / 512 → length (block_at run i) ≡ 512) where
   abbrev q : Reply
   q = reply_in head run
 
@@ -56,13 +56,13 @@ module _ (s : State) (G : Good s) (up : ascends? stored_before s.points ≡ true
   pub ordered : ascends? stored_before (results s (decode_clock (cut head 8 96)) run) ≡ true
   ordered = subst (λ (rs : List Stored). ascends? stored_before rs ≡ true) (sym same_results) (in_order s G q L.4)
 
-  module _ (c : Clock) (size : length ms ≡ 120) (marks : take (length run / 512) ms ≡ map (comes c s.points) (outcome s (reply_in head run)))
+  module _ (c : Clock) (size : length ms ≡ 120) (marks : take (length run / 512) ms ≡ map (λ r. mark (comes c s.points r)) (outcome s (reply_in head run)))
       (ok : verdict_of (results_judged s c (outcome s (reply_in head run)) true) ≡ Ok tt) where
     judged : verdict_of (results_judged s c (results s k run) true) ≡ Ok tt
     judged = subst (λ (rs : List Stored). verdict_of (results_judged s c rs true) ≡ Ok tt) (sym same_results) ok
 
-    marks_of : take (length run / 512) ms ≡ map (comes c s.points) (results s k run)
-    marks_of = marks ∙ ap (map (comes c s.points)) (sym same_results)
+    marks_of : take (length run / 512) ms ≡ map (λ r. mark (comes c s.points r)) (results s k run)
+    marks_of = marks ∙ ap (map (λ r. mark (comes c s.points r))) (sym same_results)
 
     enough : length run / 512 ≤ length ms
     enough = omega (arith, L.3, size)
@@ -70,24 +70,24 @@ module _ (s : State) (G : Good s) (up : ascends? stored_before s.points ≡ true
     ls : List Listed
     ls = noted s (points_in run)
 
-    pub first_pass : (z : State) → z ≡ with_list s 2 (noted s (points_in run)) → MergeablePass c z (decode_clock (cut head 8 96)) false run ms
+    pub first_pass : (z : State) → z ≡ with_list s 2 (noted s (points_in run)) → MergeablePass c z (decode_clock (cut head 8 96)) 0 run ms
     unfolding ls
     first_pass z e =
-        subst (λ (x : State). MergeablePass c x k false run ms) (sym e) (
+        subst (λ (x : State). MergeablePass c x k 0 run ms) (sym e) (
           up,
           first_joinable s G k c run ms ready up ordered enough marks_of (passed s c (results s k run) judged).0 (passed s c (results s k run) judged).1 ls,
           first_order s G k c run ms ready up ordered enough marks_of (passed s c (results s k run) judged).0 (passed s c (results s k run) judged).1 ls,
           first_room s G k c run ms ready up ordered enough marks_of (passed s c (results s k run) judged).0 (passed s c (results s k run) judged).1 ls,
         )
 
-    module _ (z₁ z₂ : State) (e₁ : z₁ ≡ with_list s 2 (noted s (points_in run))) (e₂ : z₂ ≡ with_points z₁ (fold (put c) z₁.points (marked false (take (length run / 512) ms) (results z₁ (decode_clock (cut head 8 96)) run)))) where
+    module _ (z₁ z₂ : State) (e₁ : z₁ ≡ with_list s 2 (noted s (points_in run))) (e₂ : z₂ ≡ with_points z₁ (fold (put c) z₁.points (marked 0 (take (length run / 512) ms) (results z₁ (decode_clock (cut head 8 96)) run)))) where
       first_left : z₂ ≡ with_points (with_list s 2 (noted s (points_in run))) (fold (put c) s.points (Rattle.numbers.specs.Words.keep (λ r. mathlib.Core.Bool.not (comes c s.points r)) (results s k run)))
       unfolding ls
       first_left =
           after_first s G k c run ms ready up ordered enough marks_of (passed s c (results s k run) judged).0 (passed s c (results s k run) judged).1 ls z₂
-          (e₂ ∙ ap (λ (x : State). with_points x (fold (put c) x.points (marked false (take (length run / 512) ms) (results x k run)))) e₁)
+          (e₂ ∙ ap (λ (x : State). with_points x (fold (put c) x.points (marked 0 (take (length run / 512) ms) (results x k run)))) e₁)
 
-      pub second_pass : MergeablePass c z₂ (decode_clock (cut head 8 96)) true run ms
+      pub second_pass : MergeablePass c z₂ (decode_clock (cut head 8 96)) 1 run ms
       unfolding ls
       second_pass = (
         second_ascends s G k c run ms ready up ordered enough marks_of (passed s c (results s k run) judged).0 (passed s c (results s k run) judged).1 ls z₂ first_left,
@@ -96,7 +96,7 @@ module _ (s : State) (G : Good s) (up : ascends? stored_before s.points ≡ true
         second_room s G k c run ms ready up ordered enough marks_of (passed s c (results s k run) judged).0 (passed s c (results s k run) judged).1 ls z₂ first_left,
       )
 
-      pub both_passes : (z₃ : State) → z₃ ≡ with_points z₂ (fold (put c) z₂.points (marked true (take (length run / 512) ms) (results z₂ (decode_clock (cut head 8 96)) run)))
+      pub both_passes : (z₃ : State) → z₃ ≡ with_points z₂ (fold (put c) z₂.points (marked 1 (take (length run / 512) ms) (results z₂ (decode_clock (cut head 8 96)) run)))
           → z₃ ≡ with_points (with_list s 2 (noted s (points_in run))) (fold (put c) s.points (outcome s (reply_in head run)))
       unfolding ls
       both_passes z₃ e =

@@ -14,7 +14,7 @@ ghost use Rattle.layout.specs.Calls.{afterwards, whole_reply};
 ghost use Rattle.arriving.specs.Sent.{Few};
 ghost use Rattle.placing.specs.Placed.{comes};
 ghost use Rattle.hearing.specs.Heard.{AllLaid, reply_in};
-ghost use Rattle.tallying.specs.Tallied.{results_judged};
+ghost use Rattle.tallying.specs.Tallied.{mark, results_judged};
 ghost use Rattle.taking.specs.Taken.{left_by};
 ghost use Rattle.repairing.specs.Repaired.{united, outcome, clock_after, Heard, Lent, made_of, repaired};
 
@@ -30,17 +30,17 @@ fn put_repaired(
     head: &[u8],
     points: &[u8],
     rows: &[u8],
-    marks: &[bool],
+    marks: &[u8],
 )
     requires { (length image.old ≡ image_length) × (good_image image.old ≡ true) × (count ≡ length (decode image.old).points) × Lent (decode image.old) head.now points.now
         × (length rows.now ≡ 96) × (decode_clock rows.now ≡ clock_after (decode image.old) (reply_in head.now points.now)) × (length marks.now ≡ 120)
-        × (take (length points.now / 512) marks.now ≡ map (λ q. comes (decode_clock rows.now) (decode image.old).points q) (outcome (decode image.old) (reply_in head.now points.now)))
+        × (take (length points.now / 512) marks.now ≡ map (λ q. mark (comes (decode_clock rows.now) (decode image.old).points q)) (outcome (decode image.old) (reply_in head.now points.now)))
         × (verdict_of (results_judged (decode image.old) (decode_clock rows.now) (outcome (decode image.old) (reply_in head.now points.now)) true) ≡ Ok tt) }
     ensures { image.new ≡ encode (tidied (settled (decode image.old) (united (decode image.old) (reply_in head.now points.now)) (outcome (decode image.old) (reply_in head.now points.now))) (reply_in head.now points.now)) }
 {
     noting::list_new(image, count, points);
-    mending::merge_marked(image, points, &head[8..104], rows, marks, false);
-    mending::merge_marked(image, points, &head[8..104], rows, marks, true);
+    mending::merge_marked(image, points, &head[8..104], rows, marks, 0);
+    mending::merge_marked(image, points, &head[8..104], rows, marks, 1);
     joining::set_rows(image, rows);
     tidying::tidy(image, greeting::sender_of(head), &head[8..104]);
 }
@@ -54,7 +54,7 @@ fn repair_marked(
     head: &[u8],
     points: &[u8],
     rows: &[u8],
-    marks: &mut [bool],
+    marks: &mut [u8],
 ) -> Result<(), Refusal>
     requires { (length image.old ≡ image_length) × (good_image image.old ≡ true) × (count ≡ length (decode image.old).points) × Lent (decode image.old) head.now points.now
         × (length rows.now ≡ 96) × (decode_clock rows.now ≡ clock_after (decode image.old) (reply_in head.now points.now)) × (every_row fits (decode_clock rows.now) ≡ true) × (length marks.old ≡ 120) }
@@ -79,7 +79,8 @@ fn repair_entered(
     ensures { (result ≡ (afterwards image.old [] (left_by (made_of (decode image.old) (reply_in head.now points.now)))).verdict)
         × (image.new ≡ (afterwards image.old [] (left_by (made_of (decode image.old) (reply_in head.now points.now)))).image) }
 {
-    let mut marks: [bool; 120] = [false; 120];
+    // A byte each, as `judge_results` and `merge_marked` take them.
+    let mut marks: [u8; 120] = [0; 120];
     repair_marked(image, count, head, points, rows, &mut marks)
 }
 

@@ -1,5 +1,5 @@
 -- What the results of a repair are judged by: rows 11 to 13 of the table. Assumes nothing.
-use Rattle.std.specs.Prelude.{ℕ, ◌<◌, ◌/◌, ◌≡◌, Bool, true, not, List, length, take, ltb}
+use Rattle.std.specs.Prelude.{ℕ, ◌<◌, ◌/◌, ◌≡◌, Bool, true, not, List, length, take, ltb, if◌then◌else◌}
 use Rattle.numbers.specs.Words.{keep, map, fold, some?}
 use Rattle.refusal.specs.declared.Refusal.TheVariants.{RowTooFar, TooManyVersions, TooManyPoints}
 use Rattle.refusal.specs.Refusal.{Answer, accepted, refuse◌when◌else◌}
@@ -27,15 +27,19 @@ AllReady s k run = (i : ℕ) → i < length run / 512 → Ready s k (block_at ru
 unfoldable pub too_many : Stored → Bool
 too_many r = ltb most_versions (length r.object.versions)
 
+-- a mark that says yes, or no
+abbrev pub mark : Bool → ℕ
+mark b = if b then 1 else 0
+
 -- what is told of one result: it has too many versions, it comes to a record, it loses its own
 abbrev pub Weighed : State → Clock → Stored → Bool → Bool → Bool → Type 0
 Weighed s c r many coming going = (many ≡ too_many r) × (coming ≡ comes c s.points r) × (going ≡ goes_away c s.points r)
 
--- and of all n: whether one has too many versions, how many come and how many go; the first n marks say which come
-abbrev pub AllWeighed : State → Clock → List Stored → ℕ → Bool → ℕ → ℕ → List Bool → Type 0
+-- and of all n: whether one has too many versions, how many come and how many go; the first n marks are 1 for those that come
+abbrev pub AllWeighed : State → Clock → List Stored → ℕ → Bool → ℕ → ℕ → List ℕ → Type 0
 AllWeighed s c rs n many coming going marks =
     (many ≡ some? too_many rs) × (coming ≡ length (keep (comes c s.points) rs)) × (going ≡ length (keep (goes_away c s.points) rs))
-    × (take n marks ≡ map (comes c s.points) rs)
+    × (take n marks ≡ map (λ r. mark (comes c s.points r)) rs)
 
 -- the rows 11 to 13 of the table, "judged on the step's result", and a where none applies: what `settle` asks
 unfoldable pub results_judged : {A : Type 0} → State → Clock → List Stored → A → Answer A

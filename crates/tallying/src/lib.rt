@@ -13,7 +13,7 @@ ghost use Rattle.layout.specs.Clocks.{decode_clock};
 ghost use Rattle.layout.specs.Image.{image_length, decode, good_image};
 ghost use Rattle.placing.specs.Placed.{comes};
 ghost use Rattle.mending.specs.Mended.{mend, results};
-ghost use Rattle.tallying.specs.Tallied.{Ready, AllReady, results_judged, Weighed, AllWeighed};
+ghost use Rattle.tallying.specs.Tallied.{mark, Ready, AllReady, results_judged, Weighed, AllWeighed};
 
 use refusal::Refusal;
 
@@ -70,7 +70,17 @@ struct Weights {
     going: usize,
 }
 
-// The marks say which points come to a record. It is asked before anything is merged, since a point whose record
+// 1 for yes, 0 for no: a byte, since docs/CONTRACTS.md names `judge_results`, and its types are not narrowed.
+fn as_mark(yes: bool) -> u8
+    ensures { result ≡ mark yes }
+{
+    if yes {
+        return 1;
+    }
+    0
+}
+
+// The marks say which points come to a record: 1 where one does, 0 where none does. It is asked before anything is merged, since a point whose record
 // has gone looks then as if it had never had one.
 fn weigh_all(
     image: &[u8],
@@ -78,7 +88,7 @@ fn weigh_all(
     points: &[u8],
     clock: &[u8],
     rows: &[u8],
-    marks: &mut [bool],
+    marks: &mut [u8],
 ) -> Weights
     requires { (length image.now ≡ image_length) × (good_image image.now ≡ true) × (count ≡ length (decode image.now).points) × (length clock.now ≡ 96) × AllReady (decode image.now) (decode_clock clock.now) points.now × (length rows.now ≡ 96)
         × (length points.now / 512 ≤ length marks.old) × (length marks.old ≡ 120) }
@@ -91,9 +101,11 @@ fn weigh_all(
     for (i, b) in points.chunks_exact(512).enumerate() {
         let w = weigh_point(image, count, b, clock, rows);
         many = many | w.many;
-        marks[i] = w.comes;
-        coming += w.comes as usize;
-        going += w.goes as usize;
+        let comes = as_mark(w.comes);
+        let goes = as_mark(w.goes);
+        marks[i] = comes;
+        coming += comes as usize;
+        going += goes as usize;
     }
     Weights {
         many: many,
@@ -109,13 +121,13 @@ pub fn judge_results(
     points: &[u8],
     clock: &[u8],
     rows: &[u8],
-    marks: &mut [bool],
+    marks: &mut [u8],
 ) -> Result<(), Refusal>
     requires { (length image.now ≡ image_length) × (good_image image.now ≡ true) × (count ≡ length (decode image.now).points) × (length clock.now ≡ 96) × AllReady (decode image.now) (decode_clock clock.now) points.now × (length rows.now ≡ 96)
         × (length points.now / 512 ≤ length marks.old) × (length marks.old ≡ 120)
         × (ascends? stored_before (results (decode image.now) (decode_clock clock.now) points.now) ≡ true) × (every_row fits (decode_clock rows.now) ≡ true) }
     ensures { (result ≡ verdict_of (results_judged (decode image.now) (decode_clock rows.now) (results (decode image.now) (decode_clock clock.now) points.now) true))
-        × (take (length points.now / 512) marks.new ≡ map (λ q. comes (decode_clock rows.now) (decode image.now).points q) (results (decode image.now) (decode_clock clock.now) points.now))
+        × (take (length points.now / 512) marks.new ≡ map (λ q. mark (comes (decode_clock rows.now) (decode image.now).points q)) (results (decode image.now) (decode_clock clock.now) points.now))
         × (length marks.new ≡ 120) }
 {
     let w = weigh_all(image, count, points, clock, rows, marks);

@@ -1,15 +1,13 @@
 -- `mending::merge_if` meets its contract. Assumes nothing.
-use mathlib.Core.Path.{refl, ◌∙◌}
-use Rattle.mending.proofs.Marked.{says_is}
+use mathlib.Core.Path.{refl}
+use borrow.Author.Tests.{eq-eqb, ne_eqb}
 use Rattle.mending.proofs.merge_if.Goals as goal
 
 pub merge_point-requires : goal.merge_point-requires
-merge_point-requires c =
-    let named = says_is c.args.mark c.args.new_places ∙ c.if-mark-new_places.true in
-    (c.requires.0, c.requires.1, c.requires.2, c.requires.3, c.requires.4, c.requires.5, c.requires.6, c.requires.7 named, c.requires.8 named)
+merge_point-requires c = (c.requires.0, c.requires.1, c.requires.2, c.requires.3, c.requires.4, c.requires.5, c.requires.6, c.requires.7 (eq-eqb _ _ c.if-mark-which.true), c.requires.8 (eq-eqb _ _ c.if-mark-which.true))
 
-pub returns-then-mark-new_places : goal.returns-then-mark-new_places
-returns-then-mark-new_places c = rw (says_is c.args.mark c.args.new_places ∙ c.if-mark-new_places.true) c.merge_point.ensures
+pub returns-then-mark-which : goal.returns-then-mark-which
+returns-then-mark-which c = rw (eq-eqb _ _ c.if-mark-which.true) c.merge_point.ensures
 
-pub returns-else-mark-new_places : goal.returns-else-mark-new_places
-returns-else-mark-new_places c = rw (says_is c.args.mark c.args.new_places ∙ c.if-mark-new_places.false) (refl, c.requires.1)
+pub returns-else-mark-which : goal.returns-else-mark-which
+returns-else-mark-which c = rw (ne_eqb _ _ c.if-mark-which.false) (refl, c.requires.1)

@@ -8,4 +8,4 @@ use Rattle.mending.proofs.Passing.{reached}
 use Rattle.mending.proofs.merge_marked.Given as goal
 
 abbrev pub invariant-loop-b : goal.invariant-loop-b
-invariant-loop-b l = (decode l.image ≡ reached (decode l.initial.image) (decode_clock l.clock) (decode_clock l.rows) l.points l.marks l.new_places (length l.yielded)) × Canonical l.image × (length l.image ≡ image_length)
+invariant-loop-b l = (decode l.image ≡ reached (decode l.initial.image) (decode_clock l.clock) (decode_clock l.rows) l.points l.marks l.which (length l.yielded)) × Canonical l.image × (length l.image ≡ image_length)

@@ -1,7 +1,6 @@
 -- `tallying::weigh_all` meets its contract. One point after the other (Tally). Assumes nothing.
-use Rattle.std.proofs.Common.{rules}
-use Prim.Native.Nat.{ℕ}
-use mathlib.Core.Path.{◌≡◌, refl, sym, subst}
+use Prim.Native.Nat.{ℕ, ◌+◌}
+use mathlib.Core.Path.{◌≡◌, refl, sym, ap, subst}
 use mathlib.Core.List.{List}
 use native.Mathlib.Omega.{arith}
 use lib.ListN.{length, length-append}
@@ -27,7 +26,7 @@ loop-i-preserved c =
     let t = turn road c.loop-i.i-iterator c.next.new.self c.loop-i.yielded c.loop-i.yielded_by c.next.ensures.steps c.in-Some.is in
     let at : c.in-Some.i ≡ length c.loop-i.yielded = λ i. (t.1 i).0 in
     let weighed = subst (λ (b : List ℕ). Weighed (decode c.args.image.now) (decode_clock c.args.rows.now) (mend (decode c.args.image.now) (decode_clock c.args.clock.now) (decode_stored form_1 b)) c.weigh_point-w.result.many c.weigh_point-w.result.comes c.weigh_point-w.result.goes) (λ i. (t.1 i).1) c.weigh_point-w.ensures in
-    rw (length-append, at) (tally_more (decode c.args.image.now) (decode_clock c.args.clock.now) (decode_clock c.args.rows.now) c.args.points.now (length c.loop-i.yielded) c.loop-i.many c.loop-i.coming c.loop-i.going c.loop-i.marks c.loop-i.invariant t.0 (omega (arith, t.0)) c.weigh_point-w.result.many c.weigh_point-w.result.comes c.weigh_point-w.result.goes weighed _ _ _ refl (search rules) (search rules))
+    rw (length-append, at) (tally_more (decode c.args.image.now) (decode_clock c.args.clock.now) (decode_clock c.args.rows.now) c.args.points.now (length c.loop-i.yielded) c.loop-i.many c.loop-i.coming c.loop-i.going c.loop-i.marks c.loop-i.invariant t.0 (omega (arith, t.0)) c.weigh_point-w.result.many c.weigh_point-w.result.comes c.weigh_point-w.result.goes weighed _ _ _ _ refl (ap (λ (x : ℕ). c.loop-i.coming + x) c.as_mark-comes.ensures) (ap (λ (x : ℕ). c.loop-i.going + x) c.as_mark-goes.ensures) c.as_mark-comes.ensures)
 
 pub returns : goal.returns
 returns c =
